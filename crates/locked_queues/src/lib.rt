@@ -22,7 +22,7 @@ pub use locked_door::{HeldLock, LockedDoor};
 pub use outlet::Outlet;
 pub use queue_records::{
     Door, DoorBook, DoorRecord, ListDoor, ListSupply, MOST_DESTS, MOST_ENTRIES, MOST_RECEIVERS,
-    MOST_SENDERS, Made, OutletBook, OutletRecord, READERS_EACH, Supply, Taken,
+    MOST_SENDERS, Made, OutletBook, OutletRecord, READERS_EACH, Supply, TakenBatch,
 };
 pub use queues::{Blank, Opened, Queues};
 pub use relay_base::NoMemory;

@@ -3,7 +3,7 @@ use Rattle.std.specs.Prelude.{◌≡◌, length, map}
 use Rattle.queue_records.specs.Offers.{OffersMade}
 use Rattle.queue_records.specs.Takes.{TakesMade}
 use Rattle.queue_records.specs.Made.{offer_of}
-use Rattle.queue_records.specs.Taken.{take_of}
+use Rattle.queue_records.specs.TakenBatch.{take_of}
 use Rattle.queue_records.specs.declared.door_record.DoorRecord.{DoorRecord}
 use Rattle.queue_records.specs.declared.outlet_record.OutletRecord.{OutletRecord}
 

@@ -2,13 +2,13 @@ pub mod Offers
 pub mod Made
 pub mod DoorBook
 pub mod Takes
-pub mod Taken
+pub mod TakenBatch
 pub mod OutletBook
 pub mod ListDoor
 pub mod DoorRecord
 pub mod Settling
 pub mod Numbered
-pub mod Found
+pub mod FoundStep
 pub mod Met
 pub mod Strangers
 pub mod Records

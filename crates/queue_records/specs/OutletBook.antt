@@ -3,7 +3,7 @@ use Rattle.std.specs.Prelude.{◌≤◌, length, map}
 use Rattle.std.specs.Vec.{vec_capacity}
 use Rattle.queue_records.specs.Offers.{most_entries}
 use Rattle.queue_records.specs.Takes.{TakesMade}
-use Rattle.queue_records.specs.Taken.{take_of}
+use Rattle.queue_records.specs.TakenBatch.{take_of}
 use Rattle.queue_records.specs.declared.outlet_book.OutletBook.TheInside.{Inside}
 
 abbrev pub takes_made_of : Inside → TakesMade

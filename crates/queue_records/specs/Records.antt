@@ -3,7 +3,7 @@ use Rattle.std.specs.Prelude.{ℕ, ◌≡◌, List, ◌++◌, map}
 use Rattle.dest_queue.specs.RecordedStep.{RecordedStep}
 use Rattle.common_orders.specs.CommonOrder.{IsCommonOrder}
 use Rattle.queue_records.specs.Made.{offer_of}
-use Rattle.queue_records.specs.Taken.{take_of}
+use Rattle.queue_records.specs.TakenBatch.{take_of}
 use Rattle.dest_queue.specs.Numbered.{history_numbers}
 use Rattle.queue_records.specs.Numbered.{StepAt, step_of_offer, step_of_take, AreStepsOf}
 use Rattle.queue_records.specs.declared.door_record.DoorRecord.{DoorRecord}

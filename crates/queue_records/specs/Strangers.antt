@@ -4,7 +4,7 @@ use Rattle.queue_records.specs.Offers.{most_entries, readers_each}
 use Rattle.queue_records.specs.declared.door_record.DoorRecord.{DoorRecord}
 use Rattle.queue_records.specs.declared.made.Made.{Made}
 use Rattle.queue_records.specs.declared.outlet_record.OutletRecord.{OutletRecord}
-use Rattle.queue_records.specs.declared.taken.Taken.{Taken}
+use Rattle.queue_records.specs.declared.taken_batch.TakenBatch.{TakenBatch}
 
 -- the entry is of this receiver's reader, to a destination that there is
 abbrev pub IsOfferOf : ℕ → ℕ → Made → Type 0
@@ -24,13 +24,13 @@ pub record IsDoorOf (name dests : ℕ) (r : DoorRecord) : Type 0 where
   pub offers : AreOffersOf dests r.seat r.made.items
 
 -- the entry is of a destination that this sender, one of `senders`, owns
-abbrev pub IsTakeOf : ℕ → ℕ → ℕ → Taken → Type 0
+abbrev pub IsTakeOf : ℕ → ℕ → ℕ → TakenBatch → Type 0
 IsTakeOf dests senders sender e =
     (e.dest.0 < dests) × (0 < senders) × (e.dest.0 % senders ≡ sender)
 
-abbrev pub AreTakesOf : ℕ → ℕ → ℕ → List Taken → Type 0
+abbrev pub AreTakesOf : ℕ → ℕ → ℕ → List TakenBatch → Type 0
 AreTakesOf dests senders sender takes =
-    (i : ℕ) (e : Taken) → slice_get takes i ≡ Some e → IsTakeOf dests senders sender e
+    (i : ℕ) (e : TakenBatch) → slice_get takes i ≡ Some e → IsTakeOf dests senders sender e
 
 -- the record may be that of its seat's outlet, at a set of this name with these numbers of destinations and senders
 pub record IsOutletOf (name dests senders : ℕ) (r : OutletRecord) : Type 0 where

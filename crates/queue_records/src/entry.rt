@@ -4,10 +4,10 @@ ghost use Rattle.std.specs.Arc.{arc_value};
 ghost use Rattle.dest_queue.specs.Step.{recorded_of};
 ghost use Rattle.queue_records.specs.Made.{offer_of};
 ghost use Rattle.queue_records.specs.Numbered.{StepAt, key_of, step_of_offer, step_of_take};
-ghost use Rattle.queue_records.specs.Taken.{take_of};
+ghost use Rattle.queue_records.specs.TakenBatch.{take_of};
 
 use crate::made::Made;
-use crate::taken::Taken;
+use crate::taken_batch::TakenBatch;
 use dest_queue::Step;
 use line_text::Point;
 
@@ -55,7 +55,7 @@ impl Entry for Made {
     }
 }
 
-impl Entry for Taken {
+impl Entry for TakenBatch {
     ghost step_of = { λ taken. step_of_take (take_of taken) };
 
     fn key(&self, readers: usize) -> usize {

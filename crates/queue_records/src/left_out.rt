@@ -6,7 +6,7 @@ ghost use Rattle.queue_records.specs.Settling.{AreUnsealed};
 use crate::door_record::DoorRecord;
 use crate::made::Made;
 use crate::outlet_record::OutletRecord;
-use crate::taken::Taken;
+use crate::taken_batch::TakenBatch;
 use dest_queue::Counts;
 use relay_base::NoMemory;
 use std::alloc::Global;
@@ -56,7 +56,7 @@ fn count_offers(made: &[Made], offers: &mut Vec<u64>) {
 }
 
 /// Counts the datapoints of the takes that a record has, at each destination.
-fn count_taken(takes: &[Taken], taken: &mut Vec<u64>) {
+fn count_taken(takes: &[TakenBatch], taken: &mut Vec<u64>) {
     for entry in takes {
         if let Some(count) = taken.get_mut(entry.dest.0) {
             *count = count.saturating_add(entry.taken as u64);

@@ -1,13 +1,13 @@
 //! Records compared with histories.
 ghost use Rattle.std.specs.Prelude.{◌≡◌, ℕ, ◌+◌, ◌*◌, ◌<◌, ◌≤◌, List, [], ◌∷◌, ◌++◌, None, Some, length, map, slice_get, slice_index, slice_index_or, IfOk, IfSome, IfNone, IsTrue};
 ghost use Rattle.std.specs.Vec.{vec_len};
-ghost use Rattle.queue_records.specs.Found.{found_by_key, numbered_of};
+ghost use Rattle.queue_records.specs.FoundStep.{found_by_key, numbered_of};
 ghost use Rattle.queue_records.specs.Met.{AreMet};
 ghost use Rattle.dest_queue.specs.Numbered.{NumberedStep};
 ghost use Rattle.queue_records.specs.Numbered.{with_number, with_numbers};
 
 use crate::entry::Entry;
-use crate::found::Found;
+use crate::found_step::FoundStep;
 use relay_base::NoMemory;
 use std::alloc::Global;
 
@@ -58,7 +58,7 @@ impl Matching {
     pub(crate) fn numbers_of<E: Entry>(
         &mut self,
         alloc: Global,
-        found: &[Vec<Found>],
+        found: &[Vec<FoundStep>],
         readers: usize,
         entries: &[E],
     ) -> Result<Vec<u64>, NoMemory>
@@ -80,7 +80,7 @@ impl Matching {
     }
 
     /// The number of the step that the next entry of its maker records.
-    fn number_of<E: Entry>(&mut self, found: &[Vec<Found>], readers: usize, entry: &E) -> u64
+    fn number_of<E: Entry>(&mut self, found: &[Vec<FoundStep>], readers: usize, entry: &E) -> u64
         ensures none { self.new.least ≡ None → self.old.least ≡ None }
         ensures met { self.new.least ≡ None → (seen : List NumberedStep)
             → AreMet readers (found_by_key found.now) seen self.old.reached.items
@@ -107,7 +107,7 @@ impl Matching {
     }
 
     /// The least difference, once all records were compared: steps that no record has count too.
-    pub(crate) fn difference(&mut self, found: &[Vec<Found>]) -> Option<Difference>
+    pub(crate) fn difference(&mut self, found: &[Vec<FoundStep>]) -> Option<Difference>
         requires keys { vec_len self.old.reached ≡ length found.now }
         ensures none { result ≡ None → self.old.least ≡ None }
         ensures all { result ≡ None → (key : ℕ) → key < length found.now
@@ -125,7 +125,7 @@ impl Matching {
 }
 
 /// The number of a maker's step at a place, if the entry records that step.
-fn number_at<E: Entry>(steps: &[Found], place: usize, entry: &E) -> Option<u64>
+fn number_at<E: Entry>(steps: &[FoundStep], place: usize, entry: &E) -> Option<u64>
     ensures within { IfSome result (λ _. place < length steps.now) }
     ensures step { IfSome result (λ number. slice_get (map numbered_of steps.now) place
         ≡ Some (with_number number (E.step_of entry.now))) }

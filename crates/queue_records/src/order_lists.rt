@@ -3,7 +3,7 @@ ghost use Rattle.std.specs.Prelude.{◌≡◌, ℕ, ◌+◌, ◌-◌, ◌*◌, �
 ghost use Rattle.std.specs.List.{range_with_len};
 ghost use Rattle.std.specs.Vec.{vec_len};
 ghost use Rattle.dest_queue.specs.Step.{recorded_of};
-ghost use Rattle.queue_records.specs.Found.{found_by_key};
+ghost use Rattle.queue_records.specs.FoundStep.{found_by_key};
 ghost use Rattle.queue_records.specs.Met.{Meets};
 ghost use Rattle.dest_queue.specs.Numbered.{all_numbered, history_numbers};
 ghost use Rattle.queue_records.specs.Numbered.{made_by};
@@ -11,7 +11,7 @@ ghost use Rattle.queue_records.specs.OrderLists.{IfAgree};
 
 use crate::door_record::DoorRecord;
 use crate::entry::Entry;
-use crate::found::{Found, found_steps};
+use crate::found_step::{FoundStep, found_steps};
 use crate::limits::MOST_DESTS;
 use crate::matching::{Difference, Matching};
 use crate::outlet_record::OutletRecord;
@@ -54,7 +54,7 @@ pub fn lists_to_order(
 fn lists_of_found(
     alloc: Global,
     histories: &[Vec<Step>],
-    found: &[Vec<Found>],
+    found: &[Vec<FoundStep>],
     readers: usize,
     doors: &[DoorRecord],
     outlets: &[OutletRecord],
@@ -128,7 +128,7 @@ fn numbers_from(alloc: Global, first: u64, count: usize) -> Result<Vec<u64>, NoM
 fn record_numbers<E: Entry, R: Record<E>>(
     alloc: Global,
     matching: &mut Matching,
-    found: &[Vec<Found>],
+    found: &[Vec<FoundStep>],
     readers: usize,
     records: &[R],
 ) -> Result<Vec<Vec<u64>>, NoMemory>

@@ -3,13 +3,13 @@ ghost use Rattle.std.specs.Prelude.{◌≡◌, ℕ, ◌<◌, ◌≤◌, [], ◌�
 ghost use Rattle.dest_queue.specs.Queue.{batch, queue_after_take};
 ghost use Rattle.dest_queue.specs.RecordedStep.{Took};
 ghost use Rattle.dest_queue.specs.SizedQueue.{base_before_step, history_before_step};
-ghost use Rattle.queue_records.specs.Taken.{take_of};
+ghost use Rattle.queue_records.specs.TakenBatch.{take_of};
 ghost use Rattle.queue_records.specs.DoorRecord.{HasTakesOf};
 ghost use Rattle.queue_records.specs.Takes.{IsFreshOfTakes, after_take, with_take, saturating_sum};
 
 use crate::limits::{MOST_DESTS, MOST_ENTRIES};
 use crate::outlet_record::OutletRecord;
-use crate::taken::Taken;
+use crate::taken_batch::TakenBatch;
 use dest_queue::{DestQueue, Hand};
 use relay_base::{DestId, NoMemory};
 use std::alloc::Global;
@@ -20,7 +20,7 @@ use std::marker::Model;
 /// Clauses see it as these.
 #[derive(Drop)]
 pub struct OutletBook {
-    takes: Vec<Taken>,
+    takes: Vec<TakenBatch>,
     totals: Vec<u64>,
 }
 
@@ -80,13 +80,13 @@ impl OutletBook {
     {
         let taken = queue.take(limit, hand);
         if taken > 0 {
-            self.keep(Taken { dest, limit, taken });
+            self.keep(TakenBatch { dest, limit, taken });
         }
         taken
     }
 
     /// Keeps an entry, while there is room, and counts its datapoints.
-    fn keep(&mut self, entry: Taken)
+    fn keep(&mut self, entry: TakenBatch)
         requires dest { entry.dest.0 < length self.old.totals }
         ensures { self.new ≡ record {
           entries = with_take (take_of entry) self.old.entries;
@@ -102,7 +102,7 @@ impl OutletBook {
     }
 
     /// The batches that were taken, while there was room for them.
-    pub fn takes(&self) -> &[Taken]
+    pub fn takes(&self) -> &[TakenBatch]
         ensures { map take_of result.now ≡ self.now.entries }
     {
         self.takes.as_slice()

@@ -1,6 +1,6 @@
 //! What a closed outlet reports.
 
-use crate::taken::Taken;
+use crate::taken_batch::TakenBatch;
 
 /// What an outlet recorded, for the settling.
 #[derive(Debug, Drop)]
@@ -12,7 +12,7 @@ pub struct OutletRecord {
     /// The seat: the number of the sender.
     pub seat: usize,
     /// The batches that were taken, while there was room for them.
-    pub takes: Vec<Taken>,
+    pub takes: Vec<TakenBatch>,
     /// How many datapoints were taken from each destination.
     pub totals: Vec<u64>,
 }

@@ -5,7 +5,7 @@ use crate::door_record::DoorRecord;
 use crate::entry::Entry;
 use crate::made::Made;
 use crate::outlet_record::OutletRecord;
-use crate::taken::Taken;
+use crate::taken_batch::TakenBatch;
 
 /// A record, which has entries.
 pub(crate) trait Record<E: Entry> {
@@ -25,10 +25,10 @@ impl Record<Made> for DoorRecord {
     }
 }
 
-impl Record<Taken> for OutletRecord {
+impl Record<TakenBatch> for OutletRecord {
     ghost entries_of = { λ r. r.takes.items };
 
-    fn entries(&self) -> &[Taken] {
+    fn entries(&self) -> &[TakenBatch] {
         self.takes.as_slice()
     }
 }

@@ -6,7 +6,7 @@ use crate::door_record::DoorRecord;
 use crate::limits::{MOST_ENTRIES, READERS_EACH};
 use crate::made::Made;
 use crate::outlet_record::OutletRecord;
-use crate::taken::Taken;
+use crate::taken_batch::TakenBatch;
 
 /// Whether these are the records of a set's doors, one for each receiver, and of its outlets, one for each
 /// sender.
@@ -156,7 +156,7 @@ fn is_offer_of(dests: usize, receiver: usize, entry: &Made) -> bool
 }
 
 /// Whether all these takes are of destinations that a sender owns.
-fn are_takes_of(dests: usize, senders: usize, sender: usize, takes: &[Taken]) -> bool
+fn are_takes_of(dests: usize, senders: usize, sender: usize, takes: &[TakenBatch]) -> bool
     ensures none { IsFalse result → ¬ AreTakesOf dests senders sender takes.now }
     ensures all { IsTrue result → AreTakesOf dests senders sender takes.now }
 {
@@ -169,7 +169,7 @@ fn are_takes_of(dests: usize, senders: usize, sender: usize, takes: &[Taken]) ->
 }
 
 /// Whether a take is of a destination that a sender owns.
-fn is_take_of(dests: usize, senders: usize, sender: usize, entry: &Taken) -> bool
+fn is_take_of(dests: usize, senders: usize, sender: usize, entry: &TakenBatch) -> bool
     ensures none { IsFalse result → ¬ IsTakeOf dests senders sender entry.now }
     ensures all { IsTrue result → IsTakeOf dests senders sender entry.now }
 {

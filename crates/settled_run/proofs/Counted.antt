@@ -16,8 +16,8 @@ use Rattle.queue_records.specs.Records.{steps_of_door, steps_of_outlet}
 use Rattle.queue_records.specs.declared.door_record.DoorRecord.{DoorRecord}
 use Rattle.queue_records.specs.declared.made.Made.{Made}
 use Rattle.queue_records.specs.declared.outlet_record.OutletRecord.{OutletRecord}
-use Rattle.queue_records.specs.declared.taken.Taken.{Taken}
-use Rattle.queue_records.specs.Taken.{take_of}
+use Rattle.queue_records.specs.declared.taken_batch.TakenBatch.{TakenBatch}
+use Rattle.queue_records.specs.TakenBatch.{take_of}
 use Rattle.settled_run.proofs.Elements.{some_is, none_is_not}
 use Rattle.settled_run.proofs.NumberedRecords.{either}
 use Rattle.settled_run.proofs.OffersRecorded.{offered_as, count_to}
@@ -222,7 +222,7 @@ door_counted d [] ns = omega arith
 door_counted d (m ∷ items) [] = omega arith
 door_counted d (m ∷ items) (n ∷ ns) = omega (arith, door_counted d items ns)
 
-outlet_counted : (d : ℕ) (items : List Taken) (ns : List ℕ) → count_at d (with_numbers (map (λ taken. step_of_take (take_of taken)) items) ns) ≡ 0
+outlet_counted : (d : ℕ) (items : List TakenBatch) (ns : List ℕ) → count_at d (with_numbers (map (λ taken. step_of_take (take_of taken)) items) ns) ≡ 0
 outlet_counted d [] ns = refl
 outlet_counted d (t ∷ items) [] = refl
 outlet_counted d (t ∷ items) (n ∷ ns) = omega (arith, outlet_counted d items ns)

@@ -8,9 +8,9 @@ use Rattle.queue_records.specs.Made.{offer_of}
 use Rattle.queue_records.specs.Numbered.{StepAt, with_number, with_numbers, step_of_offer, step_of_take, key_of, made_by}
 use Rattle.queue_records.specs.Offers.{readers_each}
 use Rattle.queue_records.specs.Strangers.{AreOffersOf}
-use Rattle.queue_records.specs.Taken.{take_of}
+use Rattle.queue_records.specs.TakenBatch.{take_of}
 use Rattle.queue_records.specs.declared.made.Made.{Made}
-use Rattle.queue_records.specs.declared.taken.Taken.{Taken}
+use Rattle.queue_records.specs.declared.taken_batch.TakenBatch.{TakenBatch}
 use Rattle.dest_queue.specs.RecordedStep.{RecordedStep, Offered, Took}
 use Rattle.settled_run.proofs.NumberedRecords.{AllSteps, either}
 
@@ -43,11 +43,11 @@ no_offers_at dests k r d (m ∷ items) are (inr past) =
     let other : m.dest.0 ≢ d = λ e. absurd (omega (arith, e, own.0, past)) in
     (and_false (m.reader == r) (m.dest.0 == d) (ne_eqb m.dest.0 d other), no_offers_at dests k r d items (λ i e at. are (suc i) e at) (inr past))
 
-pub takes_are_none : (r : ℕ) (items : List Taken) → AllSteps (λ y. is_offer_of r y.step ≡ false) (map (λ taken. step_of_take (take_of taken)) items)
+pub takes_are_none : (r : ℕ) (items : List TakenBatch) → AllSteps (λ y. is_offer_of r y.step ≡ false) (map (λ taken. step_of_take (take_of taken)) items)
 takes_are_none r [] = tt
 takes_are_none r (t ∷ items) = (refl, takes_are_none r items)
 
-pub takes_are_none_at : (r d : ℕ) (items : List Taken) → AllSteps (λ y. (is_offer_of r y.step && y.dest == d) ≡ false) (map (λ taken. step_of_take (take_of taken)) items)
+pub takes_are_none_at : (r d : ℕ) (items : List TakenBatch) → AllSteps (λ y. (is_offer_of r y.step && y.dest == d) ≡ false) (map (λ taken. step_of_take (take_of taken)) items)
 takes_are_none_at r d [] = tt
 takes_are_none_at r d (t ∷ items) = (refl, takes_are_none_at r d items)
 

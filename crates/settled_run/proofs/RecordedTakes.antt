@@ -12,9 +12,9 @@ use Rattle.relay_core.specs.Weave.{takes_in_history}
 use Rattle.queue_records.specs.Made.{offer_of}
 use Rattle.queue_records.specs.Numbered.{StepAt, with_numbers, step_of_offer, step_of_take, made_by}
 use Rattle.queue_records.specs.Strangers.{AreTakesOf}
-use Rattle.queue_records.specs.Taken.{take_of}
+use Rattle.queue_records.specs.TakenBatch.{take_of}
 use Rattle.queue_records.specs.declared.made.Made.{Made}
-use Rattle.queue_records.specs.declared.taken.Taken.{Taken}
+use Rattle.queue_records.specs.declared.taken_batch.TakenBatch.{TakenBatch}
 use Rattle.settled_run.specs.Settled as settled
 use Rattle.settled_run.proofs.NumberedRecords.{AllSteps, either}
 
@@ -43,7 +43,7 @@ doors_take_nothing d (m ∷ items) (n ∷ ns) = elim (either (m.dest.0 == d)) [
   | inr h ↦ rw h (doors_take_nothing d items ns)
 ]
 
-pub others_take_elsewhere : (dests senders k d : ℕ) (items : List Taken) → AreTakesOf dests senders k items → d % senders ≢ k
+pub others_take_elsewhere : (dests senders k d : ℕ) (items : List TakenBatch) → AreTakesOf dests senders k items → d % senders ≢ k
     → AllSteps (λ y. (y.dest == d) ≡ false) (map (λ taken. step_of_take (take_of taken)) items)
 others_take_elsewhere dests senders k d [] are apart = tt
 others_take_elsewhere dests senders k d (t ∷ items) are apart =

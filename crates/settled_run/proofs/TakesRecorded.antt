@@ -13,9 +13,9 @@ use Rattle.dest_writer.specs.Log.{Batch}
 use Rattle.relay_core.specs.Weave.{takes_in_history}
 use Rattle.queue_records.specs.Numbered.{step_of_take}
 use Rattle.queue_records.specs.Offers.{most_entries}
-use Rattle.queue_records.specs.Taken.{take_of}
+use Rattle.queue_records.specs.TakenBatch.{take_of}
 use Rattle.queue_records.specs.Takes.{TakeMade, TakesMade, after_take, saturating_sum}
-use Rattle.queue_records.specs.declared.taken.Taken.{Taken}
+use Rattle.queue_records.specs.declared.taken_batch.TakenBatch.{TakenBatch}
 use Rattle.mio_loops.specs.WriterSteps.{WriterStep, UpStep, TakeStep, WroteStep, DownStep, AreAllowed, writer_after_step, record_after_step}
 use Rattle.senders.specs.Laws.{takes_of}
 use Rattle.senders.specs.Steps.{DestStep, steps_at, record_after_all}
@@ -247,7 +247,7 @@ limits_of_steps limit (DownStep ∷ steps) have = limits_of_steps limit steps ha
 
 -- ---- the entries of a closed outlet
 
-pub takes_reported : (d : ℕ) (items : List Taken)
+pub takes_reported : (d : ℕ) (items : List TakenBatch)
     → takes_in_history (map (λ s. s.step) (filter (λ s. s.dest == d) (map (λ t. step_of_take (take_of t)) items))) ≡ batches_at d (map take_of items)
 takes_reported d [] = refl
 takes_reported d (t ∷ items) = elim (either (t.dest.0 == d)) [

@@ -2,7 +2,7 @@ use Rattle.std.proofs.Common.{◌≡◌, ◌<◌, ◌++◌, [], length, map, tak
 use Rattle.std.proofs.lemmas.Grind.{common_steps}
 use Rattle.std.proofs.lemmas.List.{map-append, length-map}
 use Rattle.std.specs.Prelude.{slice_index_or, None}
-use Rattle.queue_records.specs.Found.{found_by_key}
+use Rattle.queue_records.specs.FoundStep.{found_by_key}
 use Rattle.queue_records.specs.Met.{AreMet}
 use Rattle.queue_records.specs.Numbered.{all_with_numbers, made_by}
 use Rattle.queue_records.specs.Records.{steps_of_door, steps_of_outlet}

@@ -3,7 +3,7 @@ use Rattle.std.proofs.lemmas.List.{length-map, map-append}
 use Rattle.std.proofs.lemmas.Result.{IfOk-from_err}
 use Rattle.std.specs.Prelude.{slice_get, Some}
 use Rattle.std.proofs.lemmas.Option.{slice_get-get_or}
-use Rattle.queue_records.specs.Found.{found_by_key}
+use Rattle.queue_records.specs.FoundStep.{found_by_key}
 use Rattle.queue_records.specs.Met.{AreMet, Meets}
 use Rattle.queue_records.specs.Numbered.{StepAt, with_numbers}
 use Rattle.queue_records.proofs.Numbering.{take_whole}

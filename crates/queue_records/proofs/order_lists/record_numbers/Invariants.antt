@@ -1,6 +1,6 @@
 use Rattle.std.proofs.Common.{◌≡◌, map, take, None}
 use Rattle.std.specs.Vec.{vec_len, vec_capacity}
-use Rattle.queue_records.specs.Found.{found_by_key}
+use Rattle.queue_records.specs.FoundStep.{found_by_key}
 use Rattle.queue_records.specs.Met.{Meets}
 use Rattle.queue_records.proofs.order_lists.record_numbers.Given as goal
 

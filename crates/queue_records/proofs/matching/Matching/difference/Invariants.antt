@@ -1,5 +1,5 @@
 use Rattle.std.proofs.Common.{◌≡◌, ◌<◌, ◌≤◌, ℕ, [], length, slice_index, slice_index_or, None}
-use Rattle.queue_records.specs.Found.{found_by_key}
+use Rattle.queue_records.specs.FoundStep.{found_by_key}
 use Rattle.queue_records.proofs.matching.Matching.difference.Given as goal
 
 -- if there is no difference, all of the first makers' steps were met

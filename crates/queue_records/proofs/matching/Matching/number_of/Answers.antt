@@ -1,7 +1,7 @@
 use Rattle.std.proofs.Common.{◌≡◌, ◌<◌, ◌^◌, ◌-◌, [], map, length, slice_get, slice_index, slice_index_or, Some, ap, sym, ◌∙◌, arith}
 use Rattle.std.proofs.lemmas.Grind.{common_steps}
 use Rattle.std.proofs.lemmas.List.{get_or-map}
-use Rattle.queue_records.specs.Found.{found_by_key, numbered_of}
+use Rattle.queue_records.specs.FoundStep.{found_by_key, numbered_of}
 use Rattle.queue_records.specs.Numbered.{key_of, with_number}
 use Rattle.queue_records.proofs.Meeting.{met_more}
 use Rattle.queue_records.proofs.matching.Matching.number_of.Goals as goal

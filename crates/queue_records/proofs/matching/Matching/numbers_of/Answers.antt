@@ -2,7 +2,7 @@ use Rattle.std.proofs.Common.{◌≡◌, ◌+◌, ◌++◌, ◌∷◌, [], lengt
 use Rattle.std.proofs.lemmas.Grind.{common_steps}
 use Rattle.std.specs.Prelude.{slice_get, Some}
 use Rattle.std.proofs.lemmas.Option.{slice_get-get_or}
-use Rattle.queue_records.specs.Found.{found_by_key}
+use Rattle.queue_records.specs.FoundStep.{found_by_key}
 use Rattle.queue_records.specs.Met.{AreMet}
 use Rattle.queue_records.specs.Numbered.{with_number, with_numbers}
 use Rattle.queue_records.proofs.Numbering.{entries_more, take_whole, append-assoc}

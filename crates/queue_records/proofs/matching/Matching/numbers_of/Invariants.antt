@@ -1,6 +1,6 @@
 use Rattle.std.proofs.Common.{◌≡◌, ◌++◌, List, map, take, None}
 use Rattle.std.specs.Vec.{vec_len, vec_capacity}
-use Rattle.queue_records.specs.Found.{found_by_key}
+use Rattle.queue_records.specs.FoundStep.{found_by_key}
 use Rattle.queue_records.specs.Met.{AreMet}
 use Rattle.dest_queue.specs.Numbered.{NumberedStep}
 use Rattle.queue_records.specs.Numbered.{with_numbers}

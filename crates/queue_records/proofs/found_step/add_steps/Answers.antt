@@ -5,11 +5,11 @@ use Rattle.std.proofs.lemmas.Option.{slice_get-get_or}
 use Rattle.std.specs.Vec.{vec_len}
 use Rattle.dest_queue.specs.Queue.{most_steps}
 use Rattle.dest_queue.specs.Step.{recorded_of}
-use Rattle.queue_records.specs.Found.{found_by_key}
+use Rattle.queue_records.specs.FoundStep.{found_by_key}
 use Rattle.dest_queue.specs.Numbered.{NumberedStep, numbered_from}
 use Rattle.queue_records.specs.Numbered.{key_of, made_by}
 use Rattle.queue_records.proofs.Numbering.{steps_more, append-assoc}
-use Rattle.queue_records.proofs.found.add_steps.Goals as goal
+use Rattle.queue_records.proofs.found_step.add_steps.Goals as goal
 
 pub loop-place-preserved : goal.loop-place-preserved
 loop-place-preserved c =

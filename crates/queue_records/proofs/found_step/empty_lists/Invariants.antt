@@ -1,7 +1,7 @@
 use Rattle.std.proofs.Common.{◌≡◌, ℕ, [], slice_index_or}
 use Rattle.std.specs.Vec.{vec_len, vec_capacity}
-use Rattle.queue_records.specs.Found.{found_by_key}
-use Rattle.queue_records.proofs.found.empty_lists.Given as goal
+use Rattle.queue_records.specs.FoundStep.{found_by_key}
+use Rattle.queue_records.proofs.found_step.empty_lists.Given as goal
 
 -- the lists so far, all empty
 abbrev pub invariant-loop : goal.invariant-loop

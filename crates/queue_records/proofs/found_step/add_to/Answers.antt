@@ -2,9 +2,9 @@ use Rattle.std.proofs.Common.{◌≡◌, ◌<◌, ◌++◌, ◌∷◌, [], lengt
 use Rattle.std.proofs.lemmas.Grind.{common_steps}
 use Rattle.std.proofs.lemmas.List.{map-append}
 use Rattle.std.proofs.lemmas.Result.{IfOk-weaker}
-use Rattle.queue_records.specs.Found.{numbered_of}
+use Rattle.queue_records.specs.FoundStep.{numbered_of}
 use Rattle.queue_records.proofs.Places.{index_after}
-use Rattle.queue_records.proofs.found.add_to.Goals as goal
+use Rattle.queue_records.proofs.found_step.add_to.Goals as goal
 
 pub returns-clause-added : goal.returns-clause-added
 returns-clause-added c =

@@ -2,7 +2,7 @@
 ghost use Rattle.std.specs.Prelude.{◌≡◌, ℕ, ◌+◌, ◌*◌, ◌<◌, ◌≤◌, [], ◌∷◌, ◌++◌, ◌==◌, if◌then◌else◌, length, map, slice_index_or, IfOk};
 ghost use Rattle.std.specs.Vec.{vec_len};
 ghost use Rattle.dest_queue.specs.Step.{recorded_of};
-ghost use Rattle.queue_records.specs.Found.{found_by_key, numbered_of};
+ghost use Rattle.queue_records.specs.FoundStep.{found_by_key, numbered_of};
 ghost use Rattle.dest_queue.specs.Queue.{most_steps};
 ghost use Rattle.dest_queue.specs.Numbered.{all_numbered, numbered_from};
 ghost use Rattle.queue_records.specs.Numbered.{made_by, key_of, maker_of};
@@ -14,7 +14,7 @@ use std::alloc::Global;
 
 /// A step of a history, with its number.
 #[derive(Drop)]
-pub(crate) struct Found<'a> {
+pub(crate) struct FoundStep<'a> {
     pub(crate) dest: usize,
     pub(crate) number: u64,
     pub(crate) step: &'a Step,
@@ -25,7 +25,7 @@ pub(crate) fn found_steps<'a>(
     alloc: Global,
     histories: &'a [Vec<Step>],
     readers: usize,
-) -> Result<Vec<Vec<Found<'a>>>, NoMemory>
+) -> Result<Vec<Vec<FoundStep<'a>>>, NoMemory>
     requires histories { length histories.now ≤ MOST_DESTS }
     requires readers { readers ≤ MOST_READERS }
     ensures keys { IfOk result (λ found.
@@ -43,7 +43,7 @@ pub(crate) fn found_steps<'a>(
 }
 
 /// This many empty lists.
-fn empty_lists<'a>(alloc: Global, count: usize) -> Result<Vec<Vec<Found<'a>>>, NoMemory>
+fn empty_lists<'a>(alloc: Global, count: usize) -> Result<Vec<Vec<FoundStep<'a>>>, NoMemory>
     ensures count { IfOk result (λ lists. vec_len lists ≡ count) }
     ensures empty { IfOk result (λ lists. (key : ℕ)
         → slice_index_or (found_by_key lists.items) key [] ≡ []) }
@@ -57,7 +57,7 @@ fn empty_lists<'a>(alloc: Global, count: usize) -> Result<Vec<Vec<Found<'a>>>, N
 
 /// Adds the steps of a destination's history to the lists of those who made them.
 fn add_steps<'a>(
-    lists: &mut Vec<Vec<Found<'a>>>,
+    lists: &mut Vec<Vec<FoundStep<'a>>>,
     steps: &'a [Step],
     dest: usize,
     readers: usize,
@@ -75,13 +75,17 @@ fn add_steps<'a>(
         let step = &steps[place];
         let key = (readers + 1) * dest + maker_of_step(step, readers);
         let number = MOST_STEPS as u64 * dest as u64 + place as u64;
-        add_to(lists, key, Found { dest, number, step })?;
+        add_to(lists, key, FoundStep { dest, number, step })?;
     }
     Ok(())
 }
 
 /// Adds a step to the list of a key, if there is one.
-fn add_to<'a>(lists: &mut Vec<Vec<Found<'a>>>, key: usize, found: Found<'a>) -> Result<(), NoMemory>
+fn add_to<'a>(
+    lists: &mut Vec<Vec<FoundStep<'a>>>,
+    key: usize,
+    found: FoundStep<'a>,
+) -> Result<(), NoMemory>
     ensures count { IfOk result (λ _. vec_len lists.new ≡ vec_len lists.old) }
     ensures added { IfOk result (λ _. (k : ℕ) → k < vec_len lists.old
         → slice_index_or (found_by_key lists.new.items) k []
@@ -95,7 +99,7 @@ fn add_to<'a>(lists: &mut Vec<Vec<Found<'a>>>, key: usize, found: Found<'a>) -> 
 }
 
 /// Adds a step to a list.
-fn add<'a>(list: &mut Vec<Found<'a>>, found: Found<'a>) -> Result<(), NoMemory>
+fn add<'a>(list: &mut Vec<FoundStep<'a>>, found: FoundStep<'a>) -> Result<(), NoMemory>
     ensures { IfOk result (λ _. list.new.items ≡ list.old.items ++ found.entry ∷ []) }
 {
     list.push(found)?;

@@ -8,7 +8,7 @@ use Rattle.dest_queue.specs.Step.{recorded_of}
 use Rattle.dest_queue.specs.Numbered.{numbered_from, all_numbered}
 use Rattle.queue_records.specs.Numbered.{made_by}
 use Rattle.queue_records.proofs.Numbering.{histories_more}
-use Rattle.queue_records.proofs.found.found_steps.Goals as goal
+use Rattle.queue_records.proofs.found_step.found_steps.Goals as goal
 
 pub loop-dest-preserved : goal.loop-dest-preserved
 loop-dest-preserved c =

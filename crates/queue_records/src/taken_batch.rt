@@ -4,7 +4,7 @@ use relay_base::DestId;
 
 /// A batch that an outlet took.
 #[derive(Clone, Copy, Debug)]
-pub struct Taken {
+pub struct TakenBatch {
     /// The destination from whose queue it was taken.
     pub dest: DestId,
     /// The limit of the batch.

@@ -2,10 +2,10 @@ use Rattle.std.proofs.Common.{◌≡◌, ◌<◌, ◌*◌, ◌++◌, ℕ, [], ma
 use Rattle.std.specs.Vec.{vec_len}
 use Rattle.dest_queue.specs.Queue.{most_steps}
 use Rattle.dest_queue.specs.Step.{recorded_of}
-use Rattle.queue_records.specs.Found.{found_by_key}
+use Rattle.queue_records.specs.FoundStep.{found_by_key}
 use Rattle.dest_queue.specs.Numbered.{numbered_from}
 use Rattle.queue_records.specs.Numbered.{made_by}
-use Rattle.queue_records.proofs.found.add_steps.Given as goal
+use Rattle.queue_records.proofs.found_step.add_steps.Given as goal
 
 -- the first steps are in the lists of their makers
 abbrev pub invariant-loop-place : goal.invariant-loop-place
