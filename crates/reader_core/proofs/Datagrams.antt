@@ -10,7 +10,7 @@ use Rattle.reader_core.specs.Scan.{PieceFound, gone_on, kind_of}
 use Rattle.reader_core.specs.declared.kind.ReaderKind.TheVariants.{Datagram}
 use Rattle.reader_core.specs.declared.scan.Scan.{Scan}
 use Rattle.reader_core.specs.declared.scan.Scan.TheVariants.{Datagrams}
-use Rattle.reader_core.specs.declared.scan.Found.TheVariants.{InDatagram}
+use Rattle.reader_core.specs.declared.scan.FoundInPiece.TheVariants.{InDatagram}
 
 bytes_of-arrivals : (piece : List ℕ) (moment : ℕ) → bytes_of (arrivals piece moment) ≡ piece
 bytes_of-arrivals [] moment = refl

@@ -12,7 +12,7 @@ use Rattle.reader_core.specs.Input.{Stream}
 use Rattle.reader_core.specs.Scan.{Keeps, PieceFound, gone_on, kind_of}
 use Rattle.reader_core.specs.declared.scan.Scan.{Scan}
 use Rattle.reader_core.specs.declared.scan.Scan.TheVariants.{Lines, Pickles}
-use Rattle.reader_core.specs.declared.scan.Found.TheVariants.{InLines, InFrames}
+use Rattle.reader_core.specs.declared.scan.FoundInPiece.TheVariants.{InLines, InFrames}
 
 pub lines_found : (scan : Scan) (reader : lines.ReaderModel) → scan ≡ Lines reader → (connection piece : Stream) (old new : List Datapoint) (found : FoundLines)
     → Keeps scan connection

@@ -21,8 +21,8 @@ use Rattle.reader_core.specs.declared.kind.ReaderKind.{ReaderKind}
 use Rattle.reader_core.specs.declared.kind.ReaderKind.TheVariants.{Line, Pickle, Datagram}
 use Rattle.reader_core.specs.declared.scan.Scan.{Scan}
 use Rattle.reader_core.specs.declared.scan.Scan.TheVariants.{Lines, Pickles, Datagrams}
-use Rattle.reader_core.specs.declared.scan.Found.{Found}
-use Rattle.reader_core.specs.declared.scan.Found.TheVariants.{InLines, InFrames, InDatagram}
+use Rattle.reader_core.specs.declared.scan.FoundInPiece.{FoundInPiece}
+use Rattle.reader_core.specs.declared.scan.FoundInPiece.TheVariants.{InLines, InFrames, InDatagram}
 use Rattle.reader_core.proofs.Feeding.{current-fed, current-ended, fed-grows, ended-same, fed-counts, ended-counts}
 
 -- ---- no bytes
@@ -46,7 +46,7 @@ no_bad_rows = each_kind (λ k. bad_rows_in k [] ≡ 0) refl refl refl
 
 -- ---- a piece
 
-kind_of-after : (scan : Scan) (found : Found) → kind_of (scan_after scan found) ≡ kind_of scan
+kind_of-after : (scan : Scan) (found : FoundInPiece) → kind_of (scan_after scan found) ≡ kind_of scan
 kind_of-after (Lines reader) (InLines found) = refl
 kind_of-after (Lines reader) (InFrames found) = refl
 kind_of-after (Lines reader) (InDatagram bad) = refl
@@ -57,18 +57,18 @@ kind_of-after Datagrams (InLines found) = refl
 kind_of-after Datagrams (InFrames found) = refl
 kind_of-after Datagrams (InDatagram bad) = refl
 
-counts_with : (kind : ReaderKind) (found : Found) (n : ℕ) (before after : Stream)
+counts_with : (kind : ReaderKind) (found : FoundInPiece) (n : ℕ) (before after : Stream)
     → CountsFaults kind (counts_found found 0) before after → CountsFaults kind (counts_found found n) before after
 counts_with kind (InLines found) n before after c = record { bad_lines = c.bad_lines; bad_pickles = c.bad_pickles; bad_rows = c.bad_rows }
 counts_with kind (InFrames found) n before after c = record { bad_lines = c.bad_lines; bad_pickles = c.bad_pickles; bad_rows = c.bad_rows }
 counts_with kind (InDatagram bad) n before after c = record { bad_lines = c.bad_lines; bad_pickles = c.bad_pickles; bad_rows = c.bad_rows }
 
-bad_names-found : (found : Found) (n : ℕ) → (counts_found found n).bad_names ≡ n
+bad_names-found : (found : FoundInPiece) (n : ℕ) → (counts_found found n).bad_names ≡ n
 bad_names-found (InLines found) n = refl
 bad_names-found (InFrames found) n = refl
 bad_names-found (InDatagram bad) n = refl
 
-pub piece_taken : (old new : Scan) (found : Found) (plan : Plan) (before piece : Stream) (points : List Datapoint) (offers : List Dispatch)
+pub piece_taken : (old new : Scan) (found : FoundInPiece) (plan : Plan) (before piece : Stream) (points : List Datapoint) (offers : List Dispatch)
     (n : ℕ) (reported : ReaderTotals) → PieceFound old before piece [] points found → new ≡ scan_after old found
     → reported.faults ≡ counts_found found n → reported.datapoints ≡ count_of (length points) → offers ≡ offers_by plan points → n ≡ dropped_by plan points
     → PieceTaken old new plan before piece offers reported

@@ -13,8 +13,8 @@ use Rattle.reader_core.specs.declared.kind.ReaderKind.{ReaderKind}
 use Rattle.reader_core.specs.declared.kind.ReaderKind.TheVariants.{Line, Pickle, Datagram}
 use Rattle.reader_core.specs.declared.scan.Scan.{Scan}
 use Rattle.reader_core.specs.declared.scan.Scan.TheVariants.{Lines, Pickles, Datagrams}
-use Rattle.reader_core.specs.declared.scan.Found.{Found}
-use Rattle.reader_core.specs.declared.scan.Found.TheVariants.{InLines, InFrames, InDatagram}
+use Rattle.reader_core.specs.declared.scan.FoundInPiece.{FoundInPiece}
+use Rattle.reader_core.specs.declared.scan.FoundInPiece.TheVariants.{InLines, InFrames, InDatagram}
 
 abbrev pub kind_of : Scan → ReaderKind
 kind_of (Lines reader) = Line
@@ -41,20 +41,20 @@ is_too_long TooLong = true
 -- ---- what a piece gives
 
 -- it was found by a reader of this kind
-abbrev pub fits : Scan → Found → Bool
+abbrev pub fits : Scan → FoundInPiece → Bool
 fits (Lines reader) (InLines found) = true
 fits (Pickles reader) (InFrames found) = true
 fits Datagrams found = true
 fits scan found = false
 
 -- what is kept after the piece
-abbrev pub scan_after : Scan → Found → Scan
+abbrev pub scan_after : Scan → FoundInPiece → Scan
 scan_after (Lines reader) (InLines found) = Lines (lines.model_after reader found)
 scan_after (Pickles reader) (InFrames found) = Pickles (pickles.model_after reader found)
 scan_after scan found = scan
 
 -- what was wrong with the piece
-abbrev pub counts_found : Found → ℕ → ReaderCounts
+abbrev pub counts_found : FoundInPiece → ℕ → ReaderCounts
 counts_found (InLines found) bad_names =
     record { bad_lines = found.bad_lines; bad_pickles = 0; bad_rows = 0; bad_names = bad_names }
 counts_found (InFrames found) bad_names =
@@ -81,7 +81,7 @@ pub record CountsFaults (kind : ReaderKind) (counts : ReaderCounts)
 
 -- what was found is what the piece adds to what it continues
 pub record PieceFound (scan : Scan) (before piece : Stream) (old new : List Datapoint)
-    (found : Found) : Type 0 where
+    (found : FoundInPiece) : Type 0 where
   pub keeps : Keeps (scan_after scan found) (before ++ piece)
   pub points : GainsAlike old new (points_in (kind_of scan) before)
       (points_in (kind_of scan) (before ++ piece))

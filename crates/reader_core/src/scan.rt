@@ -26,7 +26,7 @@ pub(crate) enum Scan {
 
 /// What a piece gives beside its datapoints, with which its reader moves on.
 #[derive(Clone, Copy)]
-pub(crate) enum Found<'a> {
+pub(crate) enum FoundInPiece<'a> {
     InLines(FoundLines<'a>),
     InFrames(FoundFrames<'a>),
     InDatagram { bad_lines: u64 },
@@ -90,7 +90,7 @@ impl Scan {
         piece: &'a [u8],
         moment: Moment,
         out: &mut Vec<Point>,
-    ) -> Result<Found<'a>, NoMemory>
+    ) -> Result<FoundInPiece<'a>, NoMemory>
         ensures found { IfOk result (λ found. (connection : Stream) → Keeps self.old connection
             → PieceFound self.old (gone_on (kind_of self.old) connection)
             (arrivals piece.now moment)
@@ -103,22 +103,22 @@ impl Scan {
             Scan::Lines(reader) => {
                 plan.prefetch(piece);
                 let found = reader.find(&*plan, piece, moment, out)?;
-                Ok(Found::InLines(found))
+                Ok(FoundInPiece::InLines(found))
             }
             Scan::Pickles(reader) => {
                 let found = reader.find(&*plan, piece, moment, out)?;
-                Ok(Found::InFrames(found))
+                Ok(FoundInPiece::InFrames(found))
             }
             Scan::Datagrams => {
                 plan.prefetch(piece);
                 let bad_lines = datagram_with(alloc, &*plan, piece, moment, out)?;
-                Ok(Found::InDatagram { bad_lines })
+                Ok(FoundInPiece::InDatagram { bad_lines })
             }
         }
     }
 
     /// Moves on over the piece for which this was found. `NoMemory` leaves everything unchanged.
-    pub(crate) fn move_on(&mut self, found: &Found<'_>) -> Result<ReaderEnd, NoMemory>
+    pub(crate) fn move_on(&mut self, found: &FoundInPiece<'_>) -> Result<ReaderEnd, NoMemory>
         requires { fits self.old found.now ≡ true }
         ensures moved { OnOk result (self.new ≡ scan_after self.old found.now) }
         ensures end { IfOk result (λ end. is_too_long end ≡ is_closed self.new) }
@@ -126,11 +126,11 @@ impl Scan {
     {
         match self {
             Scan::Lines(reader) => match found {
-                Found::InLines(found) => Ok(end_of_lines(reader.move_on(found)?)),
+                FoundInPiece::InLines(found) => Ok(end_of_lines(reader.move_on(found)?)),
                 _ => unreachable!(),
             },
             Scan::Pickles(reader) => match found {
-                Found::InFrames(found) => Ok(end_of_frames(reader.move_on(found)?)),
+                FoundInPiece::InFrames(found) => Ok(end_of_frames(reader.move_on(found)?)),
                 _ => unreachable!(),
             },
             Scan::Datagrams => Ok(ReaderEnd::Open),
@@ -138,7 +138,7 @@ impl Scan {
     }
 }
 
-impl Found<'_> {
+impl FoundInPiece<'_> {
     /// What was wrong with the piece, and how many names were bad.
     pub(crate) fn counts(&self, bad_names: u64) -> ReaderCounts
         ensures { result ≡ counts_found self.now bad_names }
@@ -150,16 +150,16 @@ impl Found<'_> {
             bad_names,
         };
         match self {
-            Found::InLines(found) => ReaderCounts {
+            FoundInPiece::InLines(found) => ReaderCounts {
                 bad_lines: found.bad_lines,
                 ..zero
             },
-            Found::InFrames(found) => ReaderCounts {
+            FoundInPiece::InFrames(found) => ReaderCounts {
                 bad_pickles: found.bad_pickles,
                 bad_rows: found.bad_rows,
                 ..zero
             },
-            Found::InDatagram { bad_lines } => ReaderCounts {
+            FoundInPiece::InDatagram { bad_lines } => ReaderCounts {
                 bad_lines: *bad_lines,
                 ..zero
             },
