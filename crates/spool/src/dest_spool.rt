@@ -35,7 +35,7 @@ struct HeldFile {
 }
 
 /// What is there under the name of a destination's file.
-enum Found {
+enum FoundFile {
     /// Nothing.
     Nothing,
     /// A file of this length that has these whole lines.
@@ -57,15 +57,15 @@ impl DestSpool {
     ) -> Result<DestSpool, NoMemory> {
         let names = FileNames::new(alloc, folder, dest)?;
         match found_at(disk, names.held(), piece) {
-            Found::Nothing => Ok(DestSpool::with_held(names, None, false)),
-            Found::Lines { held, length } => {
+            FoundFile::Nothing => Ok(DestSpool::with_held(names, None, false)),
+            FoundFile::Lines { held, length } => {
                 let has_begun_line = held.end < length;
                 if has_begun_line {
                     tell_begun_line(news, &names)?;
                 }
                 Ok(DestSpool::with_held(names, Some(held), has_begun_line))
             }
-            Found::NoLines => {
+            FoundFile::NoLines => {
                 let _ = disk.give_name(names.held(), names.aside());
                 tell_no_lines(news, &names)?;
                 Ok(DestSpool::with_held(names, None, false))
@@ -174,21 +174,21 @@ impl DestSpool {
 }
 
 /// What is there at a path.
-fn found_at<D: SpoolDisk>(disk: &D, path: &str, piece: &mut [u8]) -> Found {
+fn found_at<D: SpoolDisk>(disk: &D, path: &str, piece: &mut [u8]) -> FoundFile {
     let file = match disk.open_held(path) {
         Ok(file) => file,
         Err(error) => {
             return match error.kind() {
-                ErrorKind::NotFound | ErrorKind::InvalidFilename => Found::Nothing,
-                _ => Found::NoLines,
+                ErrorKind::NotFound | ErrorKind::InvalidFilename => FoundFile::Nothing,
+                _ => FoundFile::NoLines,
             };
         }
     };
     let Some((length, end)) = extent_of(&file, piece) else {
         drop(file);
-        return Found::NoLines;
+        return FoundFile::NoLines;
     };
-    Found::Lines {
+    FoundFile::Lines {
         held: HeldFile {
             file,
             end,

@@ -5,7 +5,7 @@ ghost use Rattle.spool.specs.Held.{Ends, GoesOn, IsUnderWay};
 ghost use Rattle.spool.specs.Turn.{IfOver};
 
 use crate::held_text::HeldText;
-use crate::pieces::{Sent, send_pieces};
+use crate::pieces::{SendOutcome, send_pieces};
 use crate::turn::Turn;
 use backlog::{Cursor, laws};
 use std::io::Write;
@@ -114,18 +114,18 @@ impl<W: Write + Drop> FileConnection<W> {
         };
         let mut sink = sink;
         match send_pieces(file, end, cursor, &mut sink, piece) {
-            Sent::All => Turn::Over(sink),
-            Sent::Unreadable => Turn::GivenUp(sink),
-            Sent::Lost => {
+            SendOutcome::All => Turn::Over(sink),
+            SendOutcome::Unreadable => Turn::GivenUp(sink),
+            SendOutcome::Lost => {
                 self.sink = Some(sink);
                 Turn::Lost
             }
-            Sent::Blocked => {
+            SendOutcome::Blocked => {
                 self.sink = Some(sink);
                 self.is_blocked = true;
                 Turn::Kept
             }
-            Sent::Some => {
+            SendOutcome::Some => {
                 self.sink = Some(sink);
                 Turn::Kept
             }

@@ -12,7 +12,7 @@ const MOST_PIECES: usize = 16;
 
 /// What became of a piece.
 #[derive(Clone, Copy)]
-pub enum Sent {
+pub enum SendOutcome {
     /// The connection took some bytes, and may take more.
     Some,
     /// All whole lines are sent.
@@ -32,20 +32,20 @@ pub fn send_pieces<F: HeldText, W: Write>(
     cursor: &mut Cursor,
     sink: &mut W,
     piece: &mut [u8],
-) -> Sent
+) -> SendOutcome
     ensures sent { IfSome (F.text file.now) (λ held.
         GoesOn (take end held) cursor.old cursor.new (W.contents sink.old) (W.contents sink.new)) }
-    ensures all { result ≡ Sent.All → end ≤ cursor.new.next }
+    ensures all { result ≡ SendOutcome.All → end ≤ cursor.new.next }
 {
     laws::nothing_is_lost();
     laws::left_from_place();
     for _ in 0..MOST_PIECES {
         match send_piece(file, end, cursor, sink, piece) {
-            Sent::Some => {}
+            SendOutcome::Some => {}
             sent => return sent,
         }
     }
-    Sent::Some
+    SendOutcome::Some
 }
 
 /// Sends what a file, whose whole lines end at `end`, has for a connection next: reads a piece, and offers it in one write.
@@ -56,39 +56,39 @@ pub fn send_piece<F: HeldText, W: Write>(
     cursor: &mut Cursor,
     sink: &mut W,
     piece: &mut [u8],
-) -> Sent
+) -> SendOutcome
     // The connection gets the file's text from the cursor on, and nothing behind its whole lines.
     ensures sent { IfSome (F.text file.now) (λ held.
         GotPart (left_of held cursor.old.next end) cursor.old cursor.new
         (W.contents sink.old) (W.contents sink.new)) }
-    ensures all { result ≡ Sent.All → end ≤ cursor.new.next }
+    ensures all { result ≡ SendOutcome.All → end ≤ cursor.new.next }
 {
     let next = cursor.next();
     if next >= end {
-        return Sent::All;
+        return SendOutcome::All;
     }
     let most = (end - next).min(piece.len() as u64) as usize;
     match file.read_from(next, &mut piece[..most]) {
         Ok(count) if count > 0 => write_piece(cursor, sink, &piece[..count]),
-        _ => Sent::Unreadable,
+        _ => SendOutcome::Unreadable,
     }
 }
 
 /// Offers a piece to a connection in one write.
-fn write_piece<W: Write>(cursor: &mut Cursor, sink: &mut W, piece: &[u8]) -> Sent
+fn write_piece<W: Write>(cursor: &mut Cursor, sink: &mut W, piece: &[u8]) -> SendOutcome
     ensures sent { GotPart piece.now cursor.old cursor.new (W.contents sink.old) (W.contents sink.new) }
-    ensures all { result ≡ Sent.All → ⊥ }
+    ensures all { result ≡ SendOutcome.All → ⊥ }
 {
     match sink.write(piece) {
-        Ok(0) => Sent::Lost,
+        Ok(0) => SendOutcome::Lost,
         Ok(count) => {
             cursor.take(&piece[..count]);
-            Sent::Some
+            SendOutcome::Some
         }
         Err(error) => match error.kind() {
-            ErrorKind::WouldBlock => Sent::Blocked,
-            ErrorKind::Interrupted => Sent::Some,
-            _ => Sent::Lost,
+            ErrorKind::WouldBlock => SendOutcome::Blocked,
+            ErrorKind::Interrupted => SendOutcome::Some,
+            _ => SendOutcome::Lost,
         },
     }
 }
