@@ -9,7 +9,7 @@ use crate::marks::{
 use crate::queues::point_of;
 use dest_queue::Hand;
 use locked_queues::{
-    Blank, Door, DoorRecord, DoorSeat, LockedDoor, OpenGate, Opened, Outlet, OutletRecord,
+    BlankTotals, Door, DoorRecord, DoorSeat, LockedDoor, OpenGate, Opened, Outlet, OutletRecord,
     OutletSeat, Queues, Set, SettleFault, Settled, Supply,
 };
 use relay_base::DestId;
@@ -38,12 +38,12 @@ fn open_twice(rt: &HostRuntime, alloc: Global) -> Option<()> {
 }
 
 fn is_opened_once(rt: &HostRuntime, alloc: Global) -> Option<bool> {
-    let blank = Blank::new(alloc).ok()?;
+    let blank = BlankTotals::new(alloc).ok()?;
     Some(is_opened::<Brand>(rt, alloc, blank))
 }
 
 /// Opens the queue. Returns whether it was not refused.
-fn is_opened<B: Set>(rt: &HostRuntime, alloc: Global, blank: Blank) -> bool
+fn is_opened<B: Set>(rt: &HostRuntime, alloc: Global, blank: BlankTotals) -> bool
     requires table { blank ≡ B.table }
     requires set { (1 ≡ B.name) × (1 ≡ B.dests) × (2 ≡ B.receivers) × (1 ≡ B.senders)
         × (10 ≡ B.size) }
@@ -62,7 +62,7 @@ impl<B: Set> RowAnswer for Opened<B> {
 }
 
 /// The queue.
-fn open<B: Set>(alloc: Global, blank: Blank) -> Option<Opened<B>>
+fn open<B: Set>(alloc: Global, blank: BlankTotals) -> Option<Opened<B>>
     requires table { blank ≡ B.table }
     requires set { (1 ≡ B.name) × (1 ≡ B.dests) × (2 ≡ B.receivers) × (1 ≡ B.senders)
         × (10 ≡ B.size) }
@@ -71,11 +71,16 @@ fn open<B: Set>(alloc: Global, blank: Blank) -> Option<Opened<B>>
 }
 
 fn offer_once<R: Wait>(rt: &HostRuntime, waits: &R, alloc: Global) -> Option<()> {
-    let blank = Blank::new(alloc).ok()?;
+    let blank = BlankTotals::new(alloc).ok()?;
     offer::<Brand, R>(rt, waits, alloc, blank)
 }
 
-fn offer<B: Set, R: Wait>(rt: &HostRuntime, waits: &R, alloc: Global, blank: Blank) -> Option<()>
+fn offer<B: Set, R: Wait>(
+    rt: &HostRuntime,
+    waits: &R,
+    alloc: Global,
+    blank: BlankTotals,
+) -> Option<()>
     requires table { blank ≡ B.table }
     requires set { (1 ≡ B.name) × (1 ≡ B.dests) × (2 ≡ B.receivers) × (1 ≡ B.senders)
         × (10 ≡ B.size) }
@@ -123,11 +128,16 @@ fn offer_through<B: Set, R: Wait>(
 }
 
 fn settle_twice<R: Wait>(rt: &HostRuntime, waits: &R, alloc: Global) -> Option<()> {
-    let blank = Blank::new(alloc).ok()?;
+    let blank = BlankTotals::new(alloc).ok()?;
     settle::<Brand, R>(rt, waits, alloc, blank)
 }
 
-fn settle<B: Set, R: Wait>(rt: &HostRuntime, waits: &R, alloc: Global, blank: Blank) -> Option<()>
+fn settle<B: Set, R: Wait>(
+    rt: &HostRuntime,
+    waits: &R,
+    alloc: Global,
+    blank: BlankTotals,
+) -> Option<()>
     requires table { blank ≡ B.table }
     requires set { (1 ≡ B.name) × (1 ≡ B.dests) × (2 ≡ B.receivers) × (1 ≡ B.senders)
         × (10 ≡ B.size) }

@@ -5,7 +5,7 @@ ghost use Rattle.dest_queue.specs.Step.{recorded_of};
 ghost use Rattle.queue_records.specs.Offers.{readers_each};
 ghost use Rattle.queue_records.specs.Settling.{Begins, AreBegun};
 
-use crate::locked::Locked;
+use crate::locked::LockedQueue;
 use crate::shares::Set;
 use crossbeam_utils::CachePadded;
 use dest_queue::{Counts, Step, share};
@@ -30,7 +30,7 @@ struct Copied {
 /// Copies the counts and the history of each queue.
 pub(crate) fn copy_all<B: Set>(
     alloc: Global,
-    locks: &mut Vec<CachePadded<Mutex<Locked<B>>>>,
+    locks: &mut Vec<CachePadded<Mutex<LockedQueue<B>>>>,
 ) -> Result<Copies, NoMemory>
     ensures locks { vec_len locks.new ≡ vec_len locks.old }
     ensures begun { IfOk result (λ copies. AreBegun B.size (readers_each * B.receivers) copies.counts.items
@@ -51,7 +51,7 @@ pub(crate) fn copy_all<B: Set>(
 /// Copies the counts and the history of a queue. No thread has its lock, since it is borrowed as a whole.
 fn copy_of<B: Set>(
     alloc: Global,
-    lock: &mut CachePadded<Mutex<Locked<B>>>,
+    lock: &mut CachePadded<Mutex<LockedQueue<B>>>,
 ) -> Result<Copied, NoMemory>
     ensures { IfOk result (λ copied. Begins B.size (readers_each * B.receivers) copied.counts
         (map recorded_of copied.steps.items)) }
@@ -59,7 +59,7 @@ fn copy_of<B: Set>(
     lock.get_mut().copied(alloc)
 }
 
-impl<B: Set> Locked<B> {
+impl<B: Set> LockedQueue<B> {
     /// Copies what was counted, and the history.
     fn copied(&self, alloc: Global) -> Result<Copied, NoMemory>
         ensures { IfOk result (λ copied. Begins B.size (readers_each * B.receivers) copied.counts

@@ -24,8 +24,8 @@ pub use queue_records::{
     Door, DoorBook, DoorRecord, ListDoor, ListSupply, MOST_DESTS, MOST_ENTRIES, MOST_RECEIVERS,
     MOST_SENDERS, Made, OutletBook, OutletRecord, READERS_EACH, Supply, TakenBatch,
 };
-pub use queues::{Blank, Opened, Queues};
+pub use queues::{BlankTotals, Opened, Queues};
 pub use relay_base::NoMemory;
 pub use seats::{DoorSeat, OutletSeat};
-pub use settled::{SettleFault, Settled, Whose};
+pub use settled::{SettleFault, Settled, StepMaker};
 pub use shares::Set;

@@ -20,7 +20,7 @@ use std::sync::Arc;
 
 /// A queue with its number, and the three totals of what it counted.
 #[derive(Drop)]
-pub struct Locked<B: Set> {
+pub struct LockedQueue<B: Set> {
     pub(crate) dest: usize,
     pub(crate) queue: DestQueue,
     pub(crate) offered: Total<B>,
@@ -38,7 +38,7 @@ pub struct Locked<B: Set> {
     pub ghost all_taken: { slice_index taken.seat.me.0.totals taken.place ≡ queue.queue.taken },
 }
 
-impl<B: Set> Locked<B> {
+impl<B: Set> LockedQueue<B> {
     /// Makes an offer of a door, and counts it in the totals and in the door's shares of them.
     pub(crate) fn offer(
         &mut self,

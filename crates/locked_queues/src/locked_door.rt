@@ -9,7 +9,7 @@ ghost use Rattle.queue_records.specs.Offers.{IsFresh, IsReaderOf, MayRefuse, aft
 ghost use Rattle.locked_queues.specs.Shares.{offered_place};
 
 use crate::gate::{Gate, GatePoint};
-use crate::locked::Locked;
+use crate::locked::LockedQueue;
 use crate::queues::Queues;
 use crate::seats::DoorSeat;
 use crate::shares::{Set, Shares};
@@ -42,7 +42,7 @@ pub struct LockedDoor<'d, B: Set, R: Wait, G: Gate> {
 /// The lock of a queue, which a door holds from one offer to the next.
 #[derive(Drop)]
 pub struct HeldLock<'d, B: Set> {
-    locked: MutexGuard<'d, Locked<B>>,
+    locked: MutexGuard<'d, LockedQueue<B>>,
     /// How many offers may still be made under it, 1 to 64.
     left: usize,
 }

@@ -5,7 +5,7 @@ ghost use Rattle.std.specs.Vec.{vec_len};
 ghost use Rattle.queue_records.specs.Offers.{readers_each};
 ghost use Rattle.locked_queues.specs.Shares.{keeper_of, table_words};
 
-use crate::locked::Locked;
+use crate::locked::LockedQueue;
 use crate::seats::{DoorSeat, OutletSeat};
 use crate::shares::{Common, FIRST_PLACE, LastPlace, Set, Shares, Total, View, WORDS};
 use atomic_table::Seat;
@@ -24,7 +24,7 @@ pub(crate) fn make_locks<B: Set>(
     dests: usize,
     size: usize,
     readers: usize,
-) -> Result<Vec<CachePadded<Mutex<Locked<B>>>>, NoMemory>
+) -> Result<Vec<CachePadded<Mutex<LockedQueue<B>>>>, NoMemory>
     requires table { (common.now.table_id ≡ B.table)
         × (common.now.table_id.words ≡ table_words) }
     requires first { (first.old.table_id ≡ B.table) × (first.old.me.0 ≡ keeper_of table_words) }
@@ -53,7 +53,7 @@ fn make_lock<B: Set>(
     dest: usize,
     size: usize,
     readers: usize,
-) -> Result<CachePadded<Mutex<Locked<B>>>, NoMemory>
+) -> Result<CachePadded<Mutex<LockedQueue<B>>>, NoMemory>
     requires table { (common.now.table_id ≡ B.table)
         × (common.now.table_id.words ≡ table_words) }
     requires first { (first.old.table_id ≡ B.table)
@@ -68,7 +68,7 @@ fn make_lock<B: Set>(
     let dropped = next_total(common, first, FIRST_PLACE + 3 * dest + 1);
     let offered = next_total(common, first, FIRST_PLACE + 3 * dest);
     let queue = DestQueue::new(alloc, size, readers)?;
-    let locked = Locked {
+    let locked = LockedQueue {
         dest,
         queue,
         offered,

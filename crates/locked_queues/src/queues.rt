@@ -5,7 +5,7 @@ ghost use Rattle.std.specs.Vec.{vec_len};
 ghost use Rattle.locked_queues.specs.LockFact.{IsLockFact};
 ghost use Rattle.locked_queues.specs.Shares.{keeper_of, table_words};
 
-use crate::locked::Locked;
+use crate::locked::LockedQueue;
 use crate::opening::{make_doors, make_locks, make_outlets};
 use crate::seats::{DoorSeat, OutletSeat};
 use crate::shares::{Rule, Set, View, WORDS};
@@ -22,12 +22,12 @@ use std::sync::{Mutex, Wait};
 ///
 /// Clauses see it as the table that has them.
 #[derive(Drop)]
-pub struct Blank {
+pub struct BlankTotals {
     table: Table<u64, View, usize, Rule, Global>,
     first: Seat<u64, View>,
 }
 
-impl Model for Blank {
+impl Model for BlankTotals {
     ghost use Rattle.atomic_table.specs.Seated.{TableId};
     ghost use Rattle.locked_queues.specs.Shares.{IsSoundBlank};
 
@@ -38,11 +38,11 @@ impl Model for Blank {
     ghost invariant = { λ b. IsSoundBlank b.table.shared.table_id b.first.table_id b.first.me.0 };
 }
 
-impl Blank {
+impl BlankTotals {
     /// The totals of a set that is still to be opened.
-    pub fn new(alloc: Global) -> Result<Blank, NoMemory> {
+    pub fn new(alloc: Global) -> Result<BlankTotals, NoMemory> {
         let (table, first) = Table::of_words(alloc, &[0; WORDS], &WORDS)?;
-        Ok(Blank { table, first })
+        Ok(BlankTotals { table, first })
     }
 }
 
@@ -54,7 +54,7 @@ pub struct Queues<B: Set> {
     pub(crate) senders: usize,
     pub(crate) table: Table<u64, View, usize, Rule, Global>,
     // Each lock has cache lines of its own, so that threads at different queues do not slow each other.
-    pub(crate) locks: Vec<CachePadded<Mutex<Locked<B>>>>,
+    pub(crate) locks: Vec<CachePadded<Mutex<LockedQueue<B>>>>,
     pub ghost named: { table.shared.table_id ≡ B.table },
     pub ghost words: { table.shared.table_id.words ≡ table_words },
     pub ghost few: { vec_len locks ≤ 64 },
@@ -81,7 +81,7 @@ impl<B: Set> Queues<B> {
     /// and the size is one of `DestQueue::new`. The room for all records is reserved here.
     pub fn new(
         alloc: Global,
-        blank: Blank,
+        blank: BlankTotals,
         name: u64,
         dests: usize,
         size: usize,
@@ -99,7 +99,7 @@ impl<B: Set> Queues<B> {
         ensures doors { IfOk result (λ opened. opened.doors.items ≡ range_with_len 0 receivers) }
         ensures outlets { IfOk result (λ opened. opened.outlets.items ≡ range_with_len 0 senders) }
     {
-        let Blank { table, mut first } = blank;
+        let BlankTotals { table, mut first } = blank;
         let readers = READERS_EACH * receivers;
         let locks = make_locks(alloc, &table.shared, &mut first, dests, size, readers)?;
         let doors = make_doors(alloc, &table.shared, &mut first, name, dests, receivers)?;

@@ -10,7 +10,7 @@ ghost use Rattle.queue_records.specs.Strangers.{AreOfSet};
 
 use crate::copies::{Copies, copy_all};
 use crate::queues::Queues;
-use crate::settled::{SettleFault, Settled, Whose};
+use crate::settled::{SettleFault, Settled, StepMaker};
 use crate::shares::Set;
 use common_orders::{OrderFault, common_order};
 use dest_queue::{Counts, MOST_READERS, Step};
@@ -179,9 +179,9 @@ fn fault_of(difference: Difference, readers: usize) -> SettleFault
     SettleFault::Differs {
         dest: DestId(difference.key / (readers + 1)),
         whose: if maker == readers {
-            Whose::Sender
+            StepMaker::Sender
         } else {
-            Whose::Reader(maker)
+            StepMaker::Reader(maker)
         },
         place: difference.place,
     }

@@ -20,7 +20,7 @@ pub struct Settled {
 
 /// Who made a step: a reader an offer, or the destination's sender a take.
 #[derive(Clone, Copy, Debug, PartialEq)]
-pub enum Whose {
+pub enum StepMaker {
     /// The reader of this number.
     Reader(usize),
     /// The sender that owns the destination.
@@ -57,7 +57,7 @@ pub enum SettleFault {
         /// The least such destination.
         dest: DestId,
         /// The least reader there, or else the sender.
-        whose: Whose,
+        whose: StepMaker,
         /// The first place that differs among its offers, or the takes, there.
         place: usize,
     },

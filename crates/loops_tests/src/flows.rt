@@ -8,7 +8,7 @@ use crate::gates::HoldsFirst;
 use crate::shapes::{Shape, open_set};
 use crate::stores::Store;
 use dest_queue::Counts;
-use locked_queues::{Blank, Opened, Queues, Set};
+use locked_queues::{BlankTotals, Opened, Queues, Set};
 use relay_base::DestId;
 use senders::Resolve;
 use std::alloc::Global;
@@ -192,7 +192,7 @@ fn is_moved_to<B: Set + Send + Sync, R: FlowRuntime>(
 fn set_moves<B: Set + Send + Sync, R: FlowRuntime>(
     rt: &R,
     alloc: Global,
-    blank: Blank,
+    blank: BlankTotals,
     case: &Case,
 ) -> Option<bool>
     requires table { blank ≡ B.table }
@@ -243,7 +243,7 @@ fn all_are_moved<
 }
 
 fn is_moved<R: FlowRuntime>(rt: &R, alloc: Global, case: &Case) -> bool {
-    match Blank::new(alloc) {
+    match BlankTotals::new(alloc) {
         Ok(blank) => set_moves::<Brand, R>(rt, alloc, blank, case) == Some(true),
         Err(_) => false,
     }

@@ -5,7 +5,7 @@ use crate::points::point;
 use dest_queue::Hand;
 use line_text::Point;
 use locked_queues::{
-    Blank, Door, DoorSeat, Gate, GatePoint, LockedDoor, Opened, Outlet, OutletSeat, Queues,
+    BlankTotals, Door, DoorSeat, Gate, GatePoint, LockedDoor, Opened, Outlet, OutletSeat, Queues,
     READERS_EACH, Set, Supply,
 };
 use relay_base::DestId;
@@ -149,7 +149,7 @@ fn goes_on<B: Set + Send + Sync, R: Threads + Wait + Sync>(
 fn is_held_alone<B: Set + Send + Sync, R: Threads + Wait + Sync>(
     rt: &R,
     alloc: Global,
-    blank: Blank,
+    blank: BlankTotals,
 ) -> Option<bool>
     requires table { blank ≡ B.table }
     requires set { (1 ≡ B.name) × (2 ≡ B.dests) × (2 ≡ B.receivers) × (1 ≡ B.senders)
@@ -167,7 +167,7 @@ fn is_held_alone<B: Set + Send + Sync, R: Threads + Wait + Sync>(
 
 #[test]
 fn two_queues_at_once(rt: HostRuntime) -> Result<(), Fail> {
-    let blank = Blank::new(rt.alloc())?;
+    let blank = BlankTotals::new(rt.alloc())?;
     assert!(rt; is_held_alone::<Brand, _>(&rt, rt.alloc(), blank) == Some(true));
     Ok(())
 }

@@ -3,7 +3,7 @@ ghost use Rattle.std.specs.Prelude.{◌≡◌};
 
 use crate::points::point;
 use line_text::Point;
-use locked_queues::{Blank, Door, DoorSeat, LockedDoor, OpenGate, Opened, Queues, Set};
+use locked_queues::{BlankTotals, Door, DoorSeat, LockedDoor, OpenGate, Opened, Queues, Set};
 use relay_base::DestId;
 use std::alloc::Global;
 use std::marker::Brand;
@@ -50,7 +50,7 @@ fn door_lets_go<B: Set, R: Wait>(
 }
 
 /// Whether the door of a new set does, and its queue can be used then.
-fn set_lets_go<B: Set, R: Wait>(rt: &R, alloc: Global, blank: Blank) -> Option<bool>
+fn set_lets_go<B: Set, R: Wait>(rt: &R, alloc: Global, blank: BlankTotals) -> Option<bool>
     requires table { blank ≡ B.table }
     requires set { (1 ≡ B.name) × (1 ≡ B.dests) × (1 ≡ B.receivers) × (1 ≡ B.senders)
         × (10 ≡ B.size) }
@@ -69,7 +69,7 @@ fn set_lets_go<B: Set, R: Wait>(rt: &R, alloc: Global, blank: Blank) -> Option<b
 
 #[test]
 fn a_lock_is_held_for_64_offers(rt: HostRuntime) -> Result<(), Fail> {
-    let blank = Blank::new(rt.alloc())?;
+    let blank = BlankTotals::new(rt.alloc())?;
     assert!(rt; set_lets_go::<Brand, _>(&rt, rt.alloc(), blank) == Some(true));
     Ok(())
 }

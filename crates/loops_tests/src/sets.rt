@@ -6,7 +6,7 @@ use crate::shapes::{Shape, open_set};
 use dest_queue::{Counts, Hand};
 use line_text::Point;
 use locked_queues::{
-    Blank, Door, DoorRecord, DoorSeat, LockedDoor, OpenGate, Opened, Outlet, OutletRecord,
+    BlankTotals, Door, DoorRecord, DoorSeat, LockedDoor, OpenGate, Opened, Outlet, OutletRecord,
     OutletSeat, Queues, READERS_EACH, Set, SettleFault, Settled, Supply,
 };
 use relay_base::DestId;
@@ -303,7 +303,7 @@ fn report_of<B: Set, R: Wait>(
 pub(crate) fn settle_set<B: Set, R: Wait>(
     rt: &R,
     alloc: Global,
-    blank: Blank,
+    blank: BlankTotals,
     shape: Shape,
     acts: &[Act],
     others: Option<&Records>,
@@ -345,6 +345,6 @@ pub(crate) fn set_of<R: Wait>(
     acts: &[Act],
     others: Option<&Records>,
 ) -> Option<SetReport> {
-    let blank = Blank::new(alloc).ok()?;
+    let blank = BlankTotals::new(alloc).ok()?;
     settle_set::<Brand, R>(rt, alloc, blank, shape, acts, others)
 }

@@ -3,7 +3,7 @@
 use crate::sets::{Act, Records, SetReport, set_of};
 use crate::shapes::Shape;
 use dest_queue::Counts;
-use locked_queues::{SettleFault, Whose};
+use locked_queues::{SettleFault, StepMaker};
 use relay_base::DestId;
 use std::alloc::Global;
 use std::sync::Wait;
@@ -30,7 +30,7 @@ enum Want {
     Settles(Counts, usize),
     Sealed(usize, Counts),
     Totals(usize),
-    Differs(usize, Whose, usize),
+    Differs(usize, StepMaker, usize),
     NoOrder,
     Strangers,
 }
@@ -178,7 +178,7 @@ static CASES: [Case; 13] = [
         shape: ONE,
         acts: &[Act::Offer(0, 0, "a", 1)],
         others: Some((ONE, &[Act::Offer(0, 0, "b", 1)])),
-        want: Want::Differs(0, Whose::Reader(0), 0),
+        want: Want::Differs(0, StepMaker::Reader(0), 0),
     },
     Case {
         // Records of another datapoint at the second queue, and of a take with another limit.
@@ -196,14 +196,14 @@ static CASES: [Case; 13] = [
                 Act::Take(1, 6),
             ],
         )),
-        want: Want::Differs(1, Whose::Reader(1_024), 1),
+        want: Want::Differs(1, StepMaker::Reader(1_024), 1),
     },
     Case {
         // Records of a take with another limit.
         shape: ONE,
         acts: &[Act::Offer(0, 0, "a", 1), Act::Take(0, 5)],
         others: Some((ONE, &[Act::Offer(0, 0, "a", 1), Act::Take(0, 6)])),
-        want: Want::Differs(0, Whose::Sender, 0),
+        want: Want::Differs(0, StepMaker::Sender, 0),
     },
     Case {
         // Records with no offer.

@@ -1,7 +1,7 @@
 //! The numbers of doors, outlets and queues in the sets of the tests, and how they are opened.
 ghost use Rattle.std.specs.Prelude.{◌≡◌, ◌≤◌, IsTrue};
 
-use locked_queues::{Blank, MOST_DESTS, MOST_RECEIVERS, MOST_SENDERS, Opened, Queues, Set};
+use locked_queues::{BlankTotals, MOST_DESTS, MOST_RECEIVERS, MOST_SENDERS, Opened, Queues, Set};
 use std::alloc::Global;
 
 /// The numbers of a set.
@@ -32,7 +32,7 @@ fn is_within(shape: &Shape) -> bool
 }
 
 /// Opens a set of this shape.
-pub(crate) fn open_set<B: Set>(alloc: Global, blank: Blank, shape: Shape) -> Option<Opened<B>>
+pub(crate) fn open_set<B: Set>(alloc: Global, blank: BlankTotals, shape: Shape) -> Option<Opened<B>>
     requires table { blank ≡ B.table }
     requires name { shape.name ≡ B.name }
     requires dests { shape.dests ≡ B.dests }

@@ -7,8 +7,8 @@ use crate::shapes::{Shape, open_set};
 use dest_queue::Hand;
 use line_text::Point;
 use locked_queues::{
-    Blank, DoorRecord, DoorSeat, LockedDoor, OpenGate, Opened, Outlet, OutletRecord, OutletSeat,
-    Queues, READERS_EACH, Set, SettleFault, Settled, Supply,
+    BlankTotals, DoorRecord, DoorSeat, LockedDoor, OpenGate, Opened, Outlet, OutletRecord,
+    OutletSeat, Queues, READERS_EACH, Set, SettleFault, Settled, Supply,
 };
 use relay_base::DestId;
 use std::alloc::Global;
@@ -283,7 +283,7 @@ fn settles_after<B: Set + Send + Sync, R: Threads + Wait + Sync>(
 fn set_settles<B: Set + Send + Sync, R: Threads + Wait + Sync>(
     rt: &R,
     alloc: Global,
-    blank: Blank,
+    blank: BlankTotals,
     case: &Case,
 ) -> Option<bool>
     requires table { blank ≡ B.table }
@@ -305,7 +305,7 @@ fn set_settles<B: Set + Send + Sync, R: Threads + Wait + Sync>(
 
 // Whether the counts add up after the work of the threads, and the records settle, but not with one of them left out.
 fn is_settled<R: Threads + Wait + Sync>(rt: &R, alloc: Global, case: &Case) -> bool {
-    match Blank::new(alloc) {
+    match BlankTotals::new(alloc) {
         Ok(blank) => set_settles::<Brand, R>(rt, alloc, blank, case) == Some(true),
         Err(_) => false,
     }

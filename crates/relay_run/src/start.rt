@@ -9,7 +9,7 @@ use crate::runtime::RelayRuntime;
 use crate::shape::{Shape, shape_of};
 use crate::spool_folder::{RunSpool, SpoolFolder};
 use conf_text::Settings;
-use locked_queues::Blank;
+use locked_queues::BlankTotals;
 use relay_files::{RelayFault, RunConfiguration};
 use std::alloc::Global;
 
@@ -21,7 +21,7 @@ pub(crate) struct Start {
     pub(crate) shape: Shape,
     pub(crate) ports: Ports,
     pub(crate) spool: RunSpool,
-    pub(crate) blank: Blank,
+    pub(crate) blank: BlankTotals,
     ghost dests: { (shape.dests ≡ length configuration.settings.routing.destinations)
         × (1 ≤ shape.dests) × (shape.dests ≤ 64) },
     ghost size: { (1 ≤ shape.size) × (shape.size ≤ 1000000) },
@@ -75,7 +75,7 @@ fn bind_and_read<R: RelayRuntime>(
     settings: &Settings,
     options: RunOptions,
     folder: Option<SpoolFolder<'_>>,
-) -> Result<(Ports, RunSpool, Blank), RelayFault>
+) -> Result<(Ports, RunSpool, BlankTotals), RelayFault>
     ensures { IfErr result (λ fault. is_start_fault fault ≡ true) }
 {
     let ports = bind_all(rt, alloc, settings, options)?;
@@ -86,7 +86,7 @@ fn bind_and_read<R: RelayRuntime>(
             return Err(fault);
         }
     };
-    match Blank::new(alloc) {
+    match BlankTotals::new(alloc) {
         Ok(blank) => Ok((ports, spool, blank)),
         Err(_) => {
             drop((ports, spool));
