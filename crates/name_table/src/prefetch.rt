@@ -11,7 +11,7 @@ const MOST_PASSED: usize = 8;
 
 /// The slots of the names that the lines of a text begin with, in the order of the lines.
 #[derive(Drop)]
-pub(crate) struct Prefetched {
+pub(crate) struct PrefetchedSlots {
     slots: Vec<usize>,
     /// Follows the look-ups as the lines are read.
     pub(crate) reading: Cursor,
@@ -27,10 +27,10 @@ pub(crate) struct Cursor {
     line: Cell<usize>,
 }
 
-impl Prefetched {
+impl PrefetchedSlots {
     /// No slots.
-    pub(crate) fn new(alloc: Global) -> Prefetched {
-        Prefetched {
+    pub(crate) fn new(alloc: Global) -> PrefetchedSlots {
+        PrefetchedSlots {
             slots: Vec::new(alloc),
             reading: Cursor::new(),
             sending: Cursor::new(),

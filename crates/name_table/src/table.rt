@@ -4,7 +4,7 @@ ghost use Rattle.std.specs.Prelude.{◌≡◌, ◌<◌, [], IfSome, IfOk};
 ghost use Rattle.std.specs.Vec.{vec_len};
 ghost use Rattle.name_table.specs.NameTable.{IsFound, Keeps, entries_in};
 
-use crate::prefetch::{Cursor, Prefetched};
+use crate::prefetch::{Cursor, PrefetchedSlots};
 use crate::same_text::is_same;
 use crate::sightings::Sightings;
 use crate::slot::{SLOTS, hash_of, slot_of};
@@ -61,7 +61,7 @@ pub struct NameTable<V> {
     bytes: usize,
     /// How many names found no free slot; it wraps.
     refused: u32,
-    prefetched: Prefetched,
+    prefetched: PrefetchedSlots,
     sightings: Sightings,
 }
 
@@ -84,7 +84,7 @@ impl<V: OwnedBytes + Drop> NameTable<V> {
             slots: Vec::new(alloc),
             bytes: 0,
             refused: 0,
-            prefetched: Prefetched::new(alloc),
+            prefetched: PrefetchedSlots::new(alloc),
             sightings: Sightings::new(alloc),
         }
     }
