@@ -1,7 +1,7 @@
 //! The keys of carbon that change what it receives or sends, and that relayd does not have.
 
 use conf_text::truth;
-use note_text::{Escaped, Notes, SectionAt};
+use note_text::{EscapedText, Notes, SectionAt};
 use relay_base::whole_number_up_to;
 
 /// The longest frame of pickles that relayd reads, in bytes, as carbon does by default.
@@ -131,7 +131,7 @@ pub(crate) fn add_effect(
             if effect.is_of_ring && rules.is_some() {
                 return false;
             }
-            notes.add(format_args!("{at}: {key} = {}: {}", Escaped(value), effect.what));
+            notes.add(format_args!("{at}: {key} = {}: {}", EscapedText(value), effect.what));
             return true;
         }
     }
@@ -144,8 +144,8 @@ fn add_other_rules(notes: &mut Notes, at: SectionAt<'_>, value: &str, rules: Opt
         Some(path) if file_name(path) != file_name(value) => {
             notes.add(format_args!(
                 "{at}: RELAY_RULES = {}: carbon reads its relay rules from that file, and relayd from {}",
-                Escaped(value),
-                Escaped(path)
+                EscapedText(value),
+                EscapedText(path)
             ));
             true
         }

@@ -8,7 +8,7 @@ use crate::rule_notes::add_rule_notes;
 use crate::wanted::NotesWanted;
 use conf_text::{Dest, KeyValue, RelayMethod, Section, Setting, Settings};
 use note_text::{
-    Escaped, IniFile, Nearest, Notes, RELAY, SectionAt, TextFile, is_indented, line_of_key,
+    EscapedText, IniFile, NearestKey, Notes, RELAY, SectionAt, TextFile, is_indented, line_of_key,
 };
 use std::alloc::Global;
 use std::fmt::Write as _;
@@ -126,8 +126,8 @@ fn add_unknown_settings(
     if !keys.is_empty() && wanted == NotesWanted::All {
         notes.add(format_args!(
             "{} [relay]: these keys of carbon have no effect in relayd: {}",
-            Escaped(file.path),
-            Escaped(keys.as_str())
+            EscapedText(file.path),
+            EscapedText(keys.as_str())
         ));
     }
 }
@@ -180,7 +180,7 @@ fn add_unknown_setting(
     match line_of_key(file.text, at.number, key) {
         Some(line) if is_indented(line.text) => notes.add(format_args!(
             "{at}: `{}` is read as a key: carbon adds the line to the value above, and relayd reads each line by itself, so an item of a list may be missing; write the list on one line",
-            Escaped(key)
+            EscapedText(key)
         )),
         _ => nearest.add_note(notes, at, key),
     }
@@ -192,8 +192,8 @@ fn nearest_setting<'k>(
     notes: &mut Notes,
     key: &str,
     upper: &'k str,
-) -> Option<Nearest<'k>> {
-    let mut nearest = Nearest::new(upper);
+) -> Option<NearestKey<'k>> {
+    let mut nearest = NearestKey::new(upper);
     for setting in SETTINGS {
         if setting.name() == key {
             return None;

@@ -1,10 +1,10 @@
 //! Characters that other programs remove from a pattern or a replacement, and relayd keeps.
 
-use note_text::{Escaped, Notes, has_comment};
+use note_text::{EscapedText, Notes, has_comment};
 
 /// A note of what is odd in a line of a file.
 pub(crate) fn add_odd_text(notes: &mut Notes, path: &str, line: usize, odd: &'static str) {
-    notes.add(format_args!("{} line {line}: {odd}", Escaped(path)));
+    notes.add(format_args!("{} line {line}: {odd}", EscapedText(path)));
 }
 
 /// What is odd in a pattern.

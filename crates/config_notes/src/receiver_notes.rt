@@ -1,7 +1,7 @@
 //! Notes of the receivers: where they listen, and whether the relay sends to itself.
 
 use conf_text::{Dest, Section, Setting, Settings};
-use note_text::{Escaped, Notes};
+use note_text::{EscapedText, Notes};
 use std::net::IpAddr;
 
 /// Hosts that are this machine.
@@ -92,7 +92,7 @@ fn add_interface_note(notes: &mut Notes, receiver: Receiver<'_>) {
         notes.add(format_args!(
             "{}: `{}` is not an IP address, so run cannot listen there; write 0.0.0.0 for all interfaces or 127.0.0.1 for this machine alone, and nothing after it",
             receiver.interface_key.name(),
-            Escaped(receiver.interface)
+            EscapedText(receiver.interface)
         ));
     }
 }

@@ -4,8 +4,8 @@ use crate::odd_text::{add_odd_text, odd_pattern};
 use crate::reach::rule_above;
 use conf_text::{Dest, Section};
 use note_text::{
-    Escaped, IniFile, Nearest, Notes, RULE_KEYS, SectionAt, TextFile, add_passed_over, line_of_key,
-    why_passed_over,
+    EscapedText, IniFile, NearestKey, Notes, RULE_KEYS, SectionAt, TextFile, add_passed_over,
+    line_of_key, why_passed_over,
 };
 use std::alloc::Global;
 
@@ -31,7 +31,7 @@ pub(crate) fn add_rule_notes(
         if let Some(above) = rule_above(sections, number) {
             notes.add(format_args!(
                 "{at}: never reached: [{}] above it takes every name that it could take",
-                Escaped(above.name())
+                EscapedText(above.name())
             ));
         }
     }
@@ -56,7 +56,7 @@ fn add_unknown_keys(
 ) {
     for pair in section.pairs() {
         let key = pair.key();
-        let mut nearest = Nearest::new(key);
+        let mut nearest = NearestKey::new(key);
         let mut is_known = false;
         for name in RULE_KEYS {
             is_known = is_known || name == key;

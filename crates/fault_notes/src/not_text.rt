@@ -2,7 +2,7 @@
 
 use crate::cause::{Cause, add_cure};
 use crate::cure::Cure;
-use note_text::{Escaped, Notes};
+use note_text::{EscapedText, Notes};
 
 /// Notes of a file that is not UTF-8 from a byte on.
 pub(crate) fn add_not_text(notes: &mut Notes, path: &str, bytes: &[u8], valid: usize) {
@@ -10,7 +10,7 @@ pub(crate) fn add_not_text(notes: &mut Notes, path: &str, bytes: &[u8], valid: u
     let byte = bytes.get(valid).copied().unwrap_or(0);
     notes.add(format_args!(
         "{} line {line}: byte {byte} at column {column} is not UTF-8",
-        Escaped(path)
+        EscapedText(path)
     ));
     add_cure(
         notes,

@@ -7,7 +7,7 @@ use crate::pattern_faults::{PatternText, add_bad_pattern};
 use crate::setting_faults::{TRUTH_WORDS, add_near_key, comment_in, section_named};
 use conf_text::{Ini, Section, truth};
 use note_text::{
-    Escaped, FileLine, Notes, RELAY, RULE_KEYS, SectionAt, TextFile, add_passed_over, header_of,
+    EscapedText, FileLine, Notes, RELAY, RULE_KEYS, SectionAt, TextFile, add_passed_over, header_of,
     key_value, line_of_key, why_passed_over,
 };
 use relay_rules::RuleFault;
@@ -33,7 +33,7 @@ pub(crate) fn add_rule_fault(
     };
     notes.add(format_args!(
         "section {number}, counted from 0, is [{}]",
-        Escaped(section.name())
+        EscapedText(section.name())
     ));
     let Some(line) = line_at_fault(file.text, section, number, fault) else {
         return;

@@ -6,7 +6,7 @@ use crate::items::names_key;
 use crate::list_faults::{add_bad_item, add_repeated_item, goes_on};
 use conf_text::{Ini, Section, Setting, SettingFault};
 use note_text::{
-    Escaped, FileLine, Notes, RELAY, TextFile, header_of, is_misspelt, key_value, line_of_key,
+    EscapedText, FileLine, Notes, RELAY, TextFile, header_of, is_misspelt, key_value, line_of_key,
 };
 use relay_base::strip;
 use std::alloc::Global;
@@ -145,7 +145,7 @@ fn add_missing(
         } else if section.contains_key(key) {
             notes.add(format_args!(
                 "[{}] has {key}: relayd reads settings from [relay] only",
-                Escaped(section.name())
+                EscapedText(section.name())
             ));
         }
     }

@@ -1,7 +1,7 @@
 //! Notes of what the system did not open, and of a bad line of a script.
 
 use crate::cure::Cure;
-use note_text::{Escaped, Notes, Source, SourceText, line_numbered};
+use note_text::{EscapedText, Notes, Source, SourceText, line_numbered};
 use relay_base::NoMemory;
 use std::alloc::Global;
 use std::net::SocketAddr;
@@ -18,7 +18,7 @@ pub fn notes_of_unreadable(alloc: Global, source: Source<'_>) -> Result<Notes, N
 
 /// Adds the reason why the system did not read a file, and the cure.
 pub(crate) fn add_unreadable(notes: &mut Notes, path: &str, reason: &str) {
-    notes.add(format_args!("{}: {reason}", Escaped(path)));
+    notes.add(format_args!("{}: {reason}", EscapedText(path)));
     notes.add(Cure::READABLE_PATH);
 }
 

@@ -4,9 +4,9 @@ use std::fmt;
 
 /// A text on one line: control characters, and white space that does not look like a space, are escaped.
 #[derive(Clone, Copy)]
-pub struct Escaped<'a>(pub &'a str);
+pub struct EscapedText<'a>(pub &'a str);
 
-impl fmt::Display for Escaped<'_> {
+impl fmt::Display for EscapedText<'_> {
     fn fmt<W: fmt::Write>(&self, f: &mut fmt::Formatter<W>) -> fmt::Result {
         for c in self.0.chars() {
             show(f, c)?;
@@ -26,7 +26,7 @@ impl fmt::Display for EscapedBytes<'_> {
     fn fmt<W: fmt::Write>(&self, f: &mut fmt::Formatter<W>) -> fmt::Result {
         let shown = self.0.get(..MOST_BYTES).unwrap_or(self.0);
         for chunk in shown.utf8_chunks() {
-            Escaped(chunk.valid()).fmt(f)?;
+            EscapedText(chunk.valid()).fmt(f)?;
             show_bytes(f, chunk.invalid())?;
         }
         Ok(())

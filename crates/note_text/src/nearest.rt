@@ -1,6 +1,6 @@
 //! The key that an unknown key may be meant for.
 
-use crate::escaped::Escaped;
+use crate::escaped::EscapedText;
 use crate::notes::Notes;
 use crate::section_at::SectionAt;
 use std::alloc::Global;
@@ -28,16 +28,16 @@ pub fn is_misspelt(alloc: Global, notes: &mut Notes, key: &str, name: &'static s
 
 /// The nearest of the names that were offered.
 #[derive(Clone, Copy)]
-pub struct Nearest<'k> {
+pub struct NearestKey<'k> {
     key: &'k str,
     name: Option<&'static str>,
     edits: usize,
 }
 
-impl<'k> Nearest<'k> {
+impl<'k> NearestKey<'k> {
     /// No name was offered for this key yet.
-    pub fn new(key: &'k str) -> Nearest<'k> {
-        Nearest {
+    pub fn new(key: &'k str) -> NearestKey<'k> {
+        NearestKey {
             key,
             name: None,
             edits: MOST_EDITS.saturating_add(1),
@@ -65,7 +65,7 @@ impl<'k> Nearest<'k> {
 
     /// Adds the note of a key that is none of the names.
     pub fn add_note(self, notes: &mut Notes, at: SectionAt<'_>, key: &str) {
-        let key = Escaped(key);
+        let key = EscapedText(key);
         match self.name {
             Some(name) => notes.add(format_args!(
                 "{at}: `{key}` is not a key that relayd reads; did you mean {name}?"

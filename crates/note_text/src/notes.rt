@@ -1,6 +1,6 @@
 //! Notes, as they are written.
 
-use crate::escaped::{Carets, Escaped, Spaces};
+use crate::escaped::{Carets, EscapedText, Spaces};
 use crate::excerpt::Excerpt;
 use crate::file_line::{FileLine, white_before};
 use relay_base::{NoMemory, strip};
@@ -64,12 +64,12 @@ impl Notes {
 
     /// Adds what was found, and what may be there.
     pub fn add_found(&mut self, found: &str, expected: &'static str) {
-        self.add(format_args!("found `{}`; expected: {expected}", Escaped(found)));
+        self.add(format_args!("found `{}`; expected: {expected}", EscapedText(found)));
     }
 
     /// Adds that a line has a key, and what there is to say of it.
     pub fn add_key(&mut self, line: FileLine<'_>, key: &str, what: impl fmt::Display + Drop) {
-        self.add(format_args!("line {} has `{}`{what}", line.number, Escaped(key)));
+        self.add(format_args!("line {} has `{}`{what}", line.number, EscapedText(key)));
     }
 
     /// Adds the line before that has the same.
@@ -79,13 +79,18 @@ impl Notes {
 
     /// Adds a line of a file, with carets under the item that has these ends, in bytes.
     pub fn add_place(&mut self, path: &str, line: FileLine<'_>, start: usize, end: usize) {
-        self.add(format_args!("{} line {}:", Escaped(path), line.number));
+        self.add(format_args!("{} line {}:", EscapedText(path), line.number));
         let Excerpt {
             before,
             item,
             after,
         } = Excerpt::new(line.text, start, end);
-        self.add(format_args!("  {}{}{}", Escaped(before), Escaped(item), Escaped(after)));
+        self.add(format_args!(
+            "  {}{}{}",
+            EscapedText(before),
+            EscapedText(item),
+            EscapedText(after)
+        ));
         self.add(format_args!("  {}{}", Spaces(before), Carets(item)));
     }
 

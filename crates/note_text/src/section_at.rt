@@ -1,6 +1,6 @@
 //! A section of a file, as notes name it.
 
-use crate::escaped::Escaped;
+use crate::escaped::EscapedText;
 use crate::file_line::{FileLine, header_of, line_of_key};
 use crate::text_file::TextFile;
 use conf_text::Section;
@@ -59,8 +59,8 @@ impl fmt::Display for SectionAt<'_> {
         write!(
             f,
             "{} line {line}, section {number} [{}]",
-            Escaped(path),
-            Escaped(name)
+            EscapedText(path),
+            EscapedText(name)
         )
     }
 }
