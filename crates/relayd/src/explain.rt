@@ -99,7 +99,7 @@ const FILES_OF_PASS: &str =
 
 /// Writes notes of the files of a spool, if the configuration can be read. Returns whether there are any.
 fn spool_notes(rt: &HostRuntime, alloc: Global, paths: &Paths, folder: &String) -> bool {
-    let Ok(config) = Reread::new(rt, alloc, &paths.config) else {
+    let Ok(config) = RereadFile::new(rt, alloc, &paths.config) else {
         return false;
     };
     let settings = settings_of(alloc, &config);
@@ -115,7 +115,7 @@ fn spool_notes(rt: &HostRuntime, alloc: Global, paths: &Paths, folder: &String) 
 
 /// Notes of a file of names.
 fn notes_of_names_at(rt: &HostRuntime, alloc: Global, path: &String) -> Result<Notes, NoMemory> {
-    let file = Reread::new(rt, alloc, path)?;
+    let file = RereadFile::new(rt, alloc, path)?;
     notes_of_names(alloc, file.source())
 }
 
@@ -140,13 +140,13 @@ fn notes_of(
     wanted: NotesWanted,
 ) -> Result<Notes, NoMemory> {
     let is_check = matches!(invocation, Invocation::Check { .. });
-    let config = Reread::new(rt, alloc, &paths.config)?;
-    let rules = Reread::of_given(rt, alloc, &paths.rules)?;
-    let rewrite = Reread::of_given(rt, alloc, &paths.rewrite)?;
+    let config = RereadFile::new(rt, alloc, &paths.config)?;
+    let rules = RereadFile::of_given(rt, alloc, &paths.rules)?;
+    let rewrite = RereadFile::of_given(rt, alloc, &paths.rewrite)?;
     let files = Sources {
         config: config.source(),
-        rules: rules.as_ref().map(Reread::source),
-        rewrite: rewrite.as_ref().map(Reread::source),
+        rules: rules.as_ref().map(RereadFile::source),
+        rewrite: rewrite.as_ref().map(RereadFile::source),
     };
     let limits = RunLimits {
         memory: memory_there(rt, alloc),
@@ -160,22 +160,26 @@ fn notes_of(
 
 /// What reading a file again gave: its bytes, or why it cannot be read.
 #[derive(Drop)]
-pub struct Reread<'p> {
+pub struct RereadFile<'p> {
     path: &'p str,
     bytes: Vec<u8>,
     reason: Option<String>,
 }
 
-impl<'p> Reread<'p> {
-    pub fn new(rt: &HostRuntime, alloc: Global, path: &'p String) -> Result<Reread<'p>, NoMemory> {
+impl<'p> RereadFile<'p> {
+    pub fn new(
+        rt: &HostRuntime,
+        alloc: Global,
+        path: &'p String,
+    ) -> Result<RereadFile<'p>, NoMemory> {
         let path = path.as_str();
         match fs::read(rt, path) {
-            Ok(bytes) => Ok(Reread {
+            Ok(bytes) => Ok(RereadFile {
                 path,
                 bytes,
                 reason: None,
             }),
-            Err(error) => Ok(Reread {
+            Err(error) => Ok(RereadFile {
                 path,
                 bytes: Vec::new(alloc),
                 reason: Some(error.to_string(alloc)?),
@@ -187,9 +191,9 @@ impl<'p> Reread<'p> {
         rt: &HostRuntime,
         alloc: Global,
         path: &'p Option<String>,
-    ) -> Result<Option<Reread<'p>>, NoMemory> {
+    ) -> Result<Option<RereadFile<'p>>, NoMemory> {
         match path {
-            Some(path) => Ok(Some(Reread::new(rt, alloc, path)?)),
+            Some(path) => Ok(Some(RereadFile::new(rt, alloc, path)?)),
             None => Ok(None),
         }
     }

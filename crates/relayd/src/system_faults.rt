@@ -1,6 +1,6 @@
 //! `--explain`: notes of what a command could not open, and of a bad line of a script.
 
-use crate::explain::{Reread, write};
+use crate::explain::{RereadFile, write};
 use crate::relay_options;
 use command_line::{Invocation, Paths, RunOptions};
 use conf_text::{Ini, Settings};
@@ -85,7 +85,7 @@ fn path_of<'i>(invocation: &'i Invocation, paths: &'i Paths, role: Role) -> Opti
 
 /// Notes of a file that cannot be read.
 fn unreadable(rt: &HostRuntime, alloc: Global, path: &String) -> Result<Notes, NoMemory> {
-    let file = Reread::new(rt, alloc, path)?;
+    let file = RereadFile::new(rt, alloc, path)?;
     notes_of_unreadable(alloc, file.source())
 }
 
@@ -96,7 +96,7 @@ fn script_notes(
     path: &String,
     line: usize,
 ) -> Result<Notes, NoMemory> {
-    let file = Reread::new(rt, alloc, path)?;
+    let file = RereadFile::new(rt, alloc, path)?;
     notes_of_script(alloc, file.source(), line)
 }
 
@@ -124,7 +124,7 @@ fn add_port_notes(
     options: RunOptions,
     notes: &mut SystemNotes,
 ) -> Result<(), NoMemory> {
-    let config = Reread::new(rt, alloc, &paths.config)?;
+    let config = RereadFile::new(rt, alloc, &paths.config)?;
     let settings = settings_of(alloc, &config);
     drop(config);
     let Some(settings) = settings else {
@@ -289,7 +289,7 @@ fn add_reason(
 }
 
 /// The settings of a configuration file, if it is good.
-pub fn settings_of(alloc: Global, config: &Reread<'_>) -> Option<Settings> {
+pub fn settings_of(alloc: Global, config: &RereadFile<'_>) -> Option<Settings> {
     let ini = Ini::read(alloc, config.text()?).ok()?;
     Settings::read(alloc, &ini).ok()
 }
