@@ -6,7 +6,7 @@ use Rattle.pickle_subset.specs.declared.fault.PickleFault.TheVariants.{Truncated
 use Rattle.pickle_subset.specs.declared.opcode.Opcode.{Opcode}
 use Rattle.pickle_subset.specs.declared.opcode.Form.{Form}
 use Rattle.pickle_subset.specs.declared.opcode.Form.TheVariants.{Bytes, Counted, SignedCount}
-use Rattle.pickle_subset.specs.declared.instruction.Next.{Next}
+use Rattle.pickle_subset.specs.declared.instruction.FirstInstruction.{FirstInstruction}
 use Rattle.pickle_subset.specs.declared.instruction.Instruction as read
 use Rattle.pickle_subset.specs.Opcode.{opcode_of, form_of}
 
@@ -62,5 +62,5 @@ abbrev pub instruction_view : read.Instruction → Instruction
 instruction_view i = record { opcode = i.opcode; argument = i.argument.now }
 
 -- what is read as the next instruction
-abbrev pub next : Next → Instruction × List ℕ
+abbrev pub next : FirstInstruction → Instruction × List ℕ
 next n = (instruction_view n.instruction, n.rest.now)

@@ -10,8 +10,8 @@ use Rattle.pickle_subset.specs.declared.value.Pair.{Pair}
 use Rattle.pickle_subset.specs.declared.value.Row.{Row}
 use Rattle.pickle_subset.specs.declared.value.Item.{Item}
 use Rattle.pickle_subset.specs.declared.value.Item.TheVariants.{Mark, Rows, Text, One, Two, Three, PathOf, PairOf}
-use Rattle.pickle_subset.specs.declared.value.Bare.{Bare}
-use Rattle.pickle_subset.specs.declared.value.Bare.TheVariants as bares
+use Rattle.pickle_subset.specs.declared.value.BareScalar.{BareScalar}
+use Rattle.pickle_subset.specs.declared.value.BareScalar.TheVariants as bares
 use Rattle.pickle_subset.specs.Value as values
 
 abbrev pub scalar : Scalar → values.Scalar
@@ -20,7 +20,7 @@ scalar (scalars.Whole number) = values.Whole number
 scalar (scalars.Binary bits) = values.Binary bits
 scalar scalars.Other = values.Other
 
-abbrev pub bare : Bare → values.Scalar
+abbrev pub bare : BareScalar → values.Scalar
 bare (bares.Whole number) = values.Whole number
 bare (bares.Binary bits) = values.Binary bits
 bare bares.Other = values.Other

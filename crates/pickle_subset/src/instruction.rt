@@ -64,13 +64,13 @@ fn argument_at(form: Form, bytes: &[u8]) -> Result<Part<'_>, PickleFault>
 
 /// The first instruction of a pickle, and the bytes after it.
 #[derive(Clone, Copy)]
-pub struct Next<'a> {
+pub struct FirstInstruction<'a> {
     pub instruction: Instruction<'a>,
     pub rest: &'a [u8],
 }
 
 /// Reads the first instruction of a pickle.
-pub fn instruction_at(bytes: &[u8]) -> Result<Next<'_>, PickleFault>
+pub fn instruction_at(bytes: &[u8]) -> Result<FirstInstruction<'_>, PickleFault>
     ensures next { Gives PickleFault.NoMemory next result (instruction_at bytes.now) }
     ensures form { IfOk result
         (λ n. HasForm (form_of n.instruction.opcode) n.instruction.argument.now) }
@@ -80,7 +80,7 @@ pub fn instruction_at(bytes: &[u8]) -> Result<Next<'_>, PickleFault>
     };
     let opcode = Opcode::of_byte(*byte).ok_or(PickleFault::UnknownOpcode)?;
     let argument = argument_at(opcode.form(), bytes)?;
-    Ok(Next {
+    Ok(FirstInstruction {
         instruction: Instruction {
             opcode,
             argument: argument.bytes,

@@ -20,7 +20,7 @@ use crate::place::{Place, store_at};
 use crate::stack::{pop, push};
 use crate::table::{Action, action_of};
 use crate::usual_row::UsualRow;
-use crate::value::{Bare, Item, Pair, Row, Scalar};
+use crate::value::{BareScalar, Item, Pair, Row, Scalar};
 use bumpalo::Bump;
 use line_text::SharedNames;
 use numbered_memo::Memo;
@@ -148,9 +148,9 @@ impl<'v, 'a> Machine<'v, 'a> {
                 let path = Path::new(self.alloc, names, text)?;
                 Ok(Item::Text(Rc::new(self.arena, path)?))
             }
-            Scalar::Whole(number) => Ok(Item::One(Bare::Whole(number))),
-            Scalar::Binary(bits) => Ok(Item::One(Bare::Binary(bits))),
-            Scalar::Other => Ok(Item::One(Bare::Other)),
+            Scalar::Whole(number) => Ok(Item::One(BareScalar::Whole(number))),
+            Scalar::Binary(bits) => Ok(Item::One(BareScalar::Binary(bits))),
+            Scalar::Other => Ok(Item::One(BareScalar::Other)),
         }
     }
 

@@ -8,7 +8,7 @@ ghost use Rattle.pickle_subset.specs.Views.{item, row, pair, scalar, scalar_in, 
 use crate::fault::PickleFault;
 use crate::path::{Path, name_of, share};
 use crate::usual_row::UsualRow;
-use crate::value::{Bare, Item, Pair, Row, Scalar};
+use crate::value::{BareScalar, Item, Pair, Row, Scalar};
 use line_text::{Name, SharedNames};
 use std::alloc::Global;
 use std::sync::Arc;
@@ -117,9 +117,9 @@ impl<'v, 'a> Item<'v, 'a> {
         match self {
             Item::Text(path) => Some(Scalar::Text(path.text)),
             Item::PathOf(row) => Some(Scalar::Text(row.path)),
-            Item::One(Bare::Whole(number)) => Some(Scalar::Whole(*number)),
-            Item::One(Bare::Binary(bits)) => Some(Scalar::Binary(*bits)),
-            Item::One(Bare::Other) => Some(Scalar::Other),
+            Item::One(BareScalar::Whole(number)) => Some(Scalar::Whole(*number)),
+            Item::One(BareScalar::Binary(bits)) => Some(Scalar::Binary(*bits)),
+            Item::One(BareScalar::Other) => Some(Scalar::Other),
             _ => None,
         }
     }

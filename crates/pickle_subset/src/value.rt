@@ -44,7 +44,7 @@ pub struct Row<'a> {
 
 /// A scalar that is not a text.
 #[derive(Clone, Copy)]
-pub enum Bare {
+pub enum BareScalar {
     Whole(i64),
     Binary(u64),
     Other,
@@ -57,7 +57,7 @@ pub enum Item<'v, 'a> {
     Mark,
     Rows,
     Text(Rc<Path<'a>, &'v Bump>),
-    One(Bare),
+    One(BareScalar),
     Two(&'v Pair<'a>),
     Three(Rc<Row<'a>, &'v Bump>),
     /// The path of a row that was read in one step.
