@@ -5,10 +5,10 @@ use Rattle.std.specs.Vec.{vec_len, vec_capacity}
 use Rattle.dest_queue.specs.Queue.{most_steps}
 use Rattle.dest_queue.specs.Stored.{HasRoom, steps_until_now}
 use Rattle.dest_queue.specs.declared.base.Base.{Base}
-use Rattle.dest_queue.specs.declared.past.Past.{Past}
+use Rattle.dest_queue.specs.declared.past.PastQueue.{PastQueue}
 use Rattle.dest_queue.specs.declared.step.Step.{Step}
 
-module _ (p p' : Past) (step : Step) (base : p'.base ≡ p.base) (history : p'.history.items ≡ p.history.items ++ step ∷ []) where
+module _ (p p' : PastQueue) (step : Step) (base : p'.base ≡ p.base) (history : p'.history.items ≡ p.history.items ++ step ∷ []) where
   pub room-recorded : (size : ℕ) → vec_capacity p'.history ≡ vec_capacity p.history → HasRoom size p → HasRoom size p'
   room-recorded size capacity room =
       record {

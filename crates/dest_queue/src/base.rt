@@ -9,7 +9,7 @@ ghost use Rattle.dest_queue.specs.Step.{recorded_of};
 ghost use Rattle.dest_queue.specs.Stored.{queue_of};
 
 use crate::counts::Counts;
-use crate::current::Current;
+use crate::current::CurrentQueue;
 use crate::offer::Kept;
 use crate::past::{GROUP, IDLE_GROUP, MOST_STEPS};
 use crate::step::Step;
@@ -160,7 +160,7 @@ impl Base {
     /// Becomes the current queue, to which the steps of a full history led, and empties the history. Its datapoints
     /// move over, and only those are freed that earlier steps should have freed.
     #[inline(never)]
-    pub(crate) fn seal(&mut self, history: &mut Vec<Step>, current: &Current)
+    pub(crate) fn seal(&mut self, history: &mut Vec<Step>, current: &CurrentQueue)
         requires full { vec_len history.old ≡ most_steps }
         requires room { length self.old.queue.points + most_steps ≤ self.old.room }
         requires readers { length self.old.queue.next ≡ vec_len current.now.tally.next }

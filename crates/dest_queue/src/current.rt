@@ -14,20 +14,20 @@ use std::collections::VecDeque;
 
 /// The datapoints that are queued, and what the queue has counted.
 #[derive(Drop)]
-pub(crate) struct Current {
+pub(crate) struct CurrentQueue {
     pub(crate) points: VecDeque<Point>,
     pub(crate) tally: Tally,
 }
 
-impl Current {
+impl CurrentQueue {
     /// Nothing, for a queue of this size and this many readers, with the room for all datapoints.
-    pub(crate) fn new(alloc: Global, size: usize, readers: usize) -> Result<Current, NoMemory>
+    pub(crate) fn new(alloc: Global, size: usize, readers: usize) -> Result<CurrentQueue, NoMemory>
         ensures empty { IfOk result (λ current. queue_of 0 current ≡ empty_queue readers) }
         ensures room { IfOk result (λ current. size ≤ deque_capacity current.points) }
     {
         let points = VecDeque::with_capacity(alloc, size)?;
         let tally = Tally::new(alloc, readers)?;
-        Ok(Current { points, tally })
+        Ok(CurrentQueue { points, tally })
     }
 
     /// Resets it to the state of a new one. The room stays.

@@ -6,7 +6,7 @@ ghost use Rattle.dest_queue.specs.Queue.{empty_queue, most_steps};
 ghost use Rattle.dest_queue.specs.Stored.{queue_of, steps_until_now, history_of, HasRoom, LeadsTo};
 
 use crate::base::Base;
-use crate::current::Current;
+use crate::current::CurrentQueue;
 use crate::step::Step;
 use relay_base::{LARGEST_QUEUE_SIZE, NoMemory};
 use std::alloc::Global;
@@ -25,14 +25,14 @@ const _: () = prove!(MOST_STEPS % GROUP == 0);
 
 /// The queue at the last seal, and the steps since then.
 #[derive(Drop)]
-pub(crate) struct Past {
+pub(crate) struct PastQueue {
     pub(crate) base: Base,
     pub(crate) history: Vec<Step>,
 }
 
-impl Past {
+impl PastQueue {
     /// No steps yet, with the room that a queue of this size and this many readers needs.
-    pub(crate) fn new(alloc: Global, size: usize, readers: usize) -> Result<Past, NoMemory>
+    pub(crate) fn new(alloc: Global, size: usize, readers: usize) -> Result<PastQueue, NoMemory>
         requires size { size ≤ LARGEST_QUEUE_SIZE }
         ensures base { IfOk result (λ past. past.base.queue ≡ empty_queue readers) }
         ensures history { IfOk result (λ past. past.history.items ≡ []) }
@@ -40,7 +40,7 @@ impl Past {
     {
         let base = Base::new(alloc, size, readers)?;
         let history = Vec::with_capacity(alloc, MOST_STEPS)?;
-        Ok(Past { base, history })
+        Ok(PastQueue { base, history })
     }
 
     /// Resets it to the state of a new one. The room stays.
@@ -57,7 +57,7 @@ impl Past {
     /// Seals a full history, so that there is room for a step: the current queue, of this
     /// size, becomes the base, and the history is emptied.
     #[inline(always)]
-    pub(crate) fn make_room(&mut self, size: usize, current: &Current)
+    pub(crate) fn make_room(&mut self, size: usize, current: &CurrentQueue)
         requires room { HasRoom size self.old }
         requires leads { LeadsTo size self.old current.now }
         requires balanced { IsBalanced size (queue_of (steps_until_now self.old) current.now) }

@@ -1,6 +1,6 @@
 use Rattle.std.proofs.Common.{sym}
 use Rattle.dest_queue.proofs.Replaying.{taken_since, points_since, taken_of_these}
-use Rattle.dest_queue.proofs.past.Past.make_room.Goals as goal
+use Rattle.dest_queue.proofs.past.PastQueue.make_room.Goals as goal
 
 pub seal-requires-clause-taken : goal.seal-requires-clause-taken
 seal-requires-clause-taken c = taken_since _ _ _ _ c.requires.leads.replays
