@@ -79,9 +79,9 @@ impl Split<View> for LastPlace {
     ghost right = { last_alone };
 }
 
-pub struct Nothing;
+pub struct NoShares;
 
-impl Split<View> for Nothing {
+impl Split<View> for NoShares {
     ghost use Rattle.locked_queues.specs.Shares.{nobody};
 
     ghost left = { λ v. v };
@@ -161,7 +161,7 @@ impl<B: Set> Shares<B> {
         ensures first { (first.new.table_id ≡ B.table) × (first.new.me.0 ≡ first.old.me.0) }
         ensures none { result.seat.me.0 ≡ nobody }
     {
-        let seat = common.split_seat::<Nothing>(first);
+        let seat = common.split_seat::<NoShares>(first);
         Shares {
             seat,
             of: PhantomData,
