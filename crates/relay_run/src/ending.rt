@@ -18,7 +18,7 @@ use std::thread::{JoinHandle, Threads};
 /// How the threads ended, the receivers and the senders in order, and whether the run went on until it was
 /// stopped.
 #[derive(Drop)]
-pub(crate) struct Ends {
+pub(crate) struct ThreadEnds {
     pub(crate) receivers: Vec<ThreadEnd<DoorRecord, FedLog>>,
     pub(crate) senders: Vec<ThreadEnd<OutletRecord, Vec<WriteLog>>>,
     pub(crate) served: Result<(), RelayFault>,
@@ -33,7 +33,7 @@ pub(crate) fn end_threads<R: Threads + Wait + Clock, M: FirstThread<R>>(
     started: StartedThreads,
     served: Result<(), RelayFault>,
     first: &mut M,
-) -> Ends
+) -> ThreadEnds
     ensures same { M.which first.new ≡ M.which first.old }
     ensures nothing { M.written first.new ≡ M.written first.old }
     ensures served { (result.served ≡ served) ⊎ (result.served ≡ Err RelayFault.NoMemory) }
@@ -56,7 +56,7 @@ pub(crate) fn end_threads<R: Threads + Wait + Clock, M: FirstThread<R>>(
     let served = served_if(are_kept, served);
     signals.stop_watchers();
     let _ends = join_all(rt, alloc, watchers);
-    Ends {
+    ThreadEnds {
         receivers,
         senders,
         served,

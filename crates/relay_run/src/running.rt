@@ -5,7 +5,7 @@ ghost use Rattle.std.specs.Io.KnownBytes.{Appends};
 ghost use Rattle.relay_run.specs.Running.{Served, IsThreadFault, FailsBeforeClosing, ready_line};
 
 use crate::admin::AdminPort;
-use crate::ending::Ends;
+use crate::ending::ThreadEnds;
 use crate::receiver_job::ReceiverJob;
 use crate::relay::{Parts, Relay};
 use crate::runtime::RelayRuntime;
@@ -66,7 +66,7 @@ fn run_jobs<B: Set + Send + Sync, R: RelayRuntime, W: Write, L: Write + Send + D
     controls: &[Arc<ReceiverControl>],
     admin: &mut AdminListener,
     output: &mut W,
-) -> Ends
+) -> ThreadEnds
     ensures { Served (W.contents output.old) (W.contents output.new) result.served }
 {
     let port = AdminPort {

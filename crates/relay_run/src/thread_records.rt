@@ -3,7 +3,7 @@
 ghost use Rattle.std.specs.Prelude.{◌≡◌, ◌⊎◌, map, IfOk, IfErr, IsErrOf, IsOk, OnOk};
 ghost use Rattle.relay_run.specs.Running.{thread_fault};
 
-use crate::ending::Ends;
+use crate::ending::ThreadEnds;
 use crate::thread_end::{ThreadEnd, thread_fault};
 use finished_run::ThreadLogs;
 use locked_queues::{DoorRecord, OutletRecord};
@@ -24,7 +24,7 @@ pub(crate) struct Records {
 pub(crate) fn records_of(
     alloc: Global,
     unused: Vec<DoorRecord>,
-    ends: Ends,
+    ends: ThreadEnds,
 ) -> Result<Records, RelayFault>
     ensures fault { IfOk result (λ records. records.fault
         ≡ thread_fault (map (λ end. end.fault) ends.receivers.items)
@@ -32,7 +32,7 @@ pub(crate) fn records_of(
     ensures served { OnOk result (IsOk ends.served) }
     ensures err { IfErr result (λ fault. IsErrOf ends.served fault ⊎ (fault ≡ RelayFault.NoMemory)) }
 {
-    let Ends {
+    let ThreadEnds {
         receivers,
         senders,
         served,

@@ -4,7 +4,7 @@ ghost use Rattle.std.specs.Prelude.{◌≡◌};
 ghost use Rattle.relay_run.specs.Running.{Served};
 ghost use denote.Param.Send.{IsSync, IsSend};
 
-use crate::ending::{Ends, end_threads};
+use crate::ending::{ThreadEnds, end_threads};
 use crate::first_thread::{FirstThread, serve_if};
 use crate::thread_end::ThreadEnd;
 use finished_run::FedLog;
@@ -59,7 +59,7 @@ pub(crate) fn run_threads<
     L: ThreadWork<R, ()> + Send + Drop,
     V: ThreadWork<R, ()> + Send + Drop,
     M: FirstThread<R> + Drop,
->(rt: &R, alloc: Global, jobs: Jobs<J, K, L, V>, signals: &Signals, first: M) -> (Ends, M)
+>(rt: &R, alloc: Global, jobs: Jobs<J, K, L, V>, signals: &Signals, first: M) -> (ThreadEnds, M)
     ensures same { M.which result.1 ≡ M.which first }
     ensures served { Served (M.written first) (M.written result.1) result.0.served }
 {
@@ -67,7 +67,7 @@ pub(crate) fn run_threads<
     thread::scope(
         thread::scope_env(),
         rt,
-        move |scope| -> (Ends, M)
+        move |scope| -> (ThreadEnds, M)
             requires { IsSync R.row × IsSend J.row × IsSend K.row × IsSend L.row × IsSend V.row }
             ensures same { M.which result.1 ≡ M.which first }
             ensures served { Served (M.written first) (M.written result.1) result.0.served }
@@ -96,7 +96,7 @@ fn run_in_scope<
     jobs: Jobs<J, K, L, V>,
     link: SignalLink<'s>,
     first: &mut M,
-) -> Ends
+) -> ThreadEnds
     ensures same { M.which first.new ≡ M.which first.old }
     ensures served { Served (M.written first.old) (M.written first.new) result.served }
 {
