@@ -1,0 +1,106 @@
+//! A stream that gives some bytes first.
+
+ghost use Rattle.std.specs.Prelude.{◌≡◌, ◌<◌, ◌≤◌, ◌↔◌, [], Some, length, IsTrue};
+ghost use Rattle.std.specs.Fmt.{option_append};
+ghost use Rattle.std.specs.Io.{ReadsAtMost};
+ghost use Rattle.std.specs.Io.KnownBytes.{ReadConsumes};
+ghost use Rattle.handover.specs.FirstBytes.{bytes_before, stream_behind};
+
+use std::alloc::Global;
+use std::io;
+use std::io::Read;
+
+/// A stream that gives some bytes first, and then what another stream gives. Once the first bytes were read, their memory is
+/// freed.
+///
+/// Clauses see it as the bytes before the other stream that were not read yet, and that stream.
+#[derive(Drop)]
+pub struct FirstBytes<S> {
+    alloc: Global,
+    bytes: Vec<u8>,
+    // How many of them were read.
+    place: usize,
+    stream: S,
+    ghost within: { place ≤ length bytes.items },
+}
+
+impl<S> FirstBytes<S> {
+    /// A stream that gives these bytes first. It takes no memory.
+    pub fn new(alloc: Global, bytes: Vec<u8>, stream: S) -> FirstBytes<S>
+        ensures bytes { bytes_before result ≡ bytes.items }
+        ensures stream { stream_behind result ≡ stream }
+    {
+        FirstBytes {
+            alloc,
+            bytes,
+            place: 0,
+            stream,
+        }
+    }
+
+    /// A stream that gives nothing first.
+    pub fn none(alloc: Global, stream: S) -> FirstBytes<S>
+        ensures bytes { bytes_before result ≡ [] }
+        ensures stream { stream_behind result ≡ stream }
+    {
+        FirstBytes::new(alloc, Vec::new(alloc), stream)
+    }
+
+    /// Whether bytes are left that come first: they can be read at once, whatever the system says of the stream.
+    pub fn has_bytes(&self) -> bool
+        ensures { IsTrue result ↔ (0 < length (bytes_before self.now)) }
+    {
+        self.place < self.bytes.len()
+    }
+
+    /// The stream behind the bytes.
+    pub fn stream(&self) -> &S
+        ensures { result.now ≡ stream_behind self.now }
+    {
+        &self.stream
+    }
+
+    /// The bytes that come first and were not read yet, and the stream behind them.
+    pub fn into_parts(self) -> (Vec<u8>, S)
+        ensures bytes { result.0.items ≡ bytes_before self }
+        ensures stream { result.1 ≡ stream_behind self }
+    {
+        let FirstBytes {
+            alloc: _,
+            mut bytes,
+            place,
+            stream,
+        } = self;
+        bytes.drain(..place);
+        (bytes, stream)
+    }
+
+    /// Reads some of the bytes that come first. Once none is left they are freed.
+    fn read_first(&mut self, buf: &mut [u8]) -> io::Result<usize>
+        ensures bound { ReadsAtMost result buf.new }
+        ensures bytes { ReadConsumes (Some (bytes_before self.old)) (Some (bytes_before self.new))
+            result buf.new }
+        ensures stream { stream_behind self.new ≡ stream_behind self.old }
+    {
+        let mut left = &self.bytes[self.place..];
+        let count = left.read(buf)?;
+        self.place += count;
+        if self.place >= self.bytes.len() {
+            self.bytes = Vec::new(self.alloc);
+            self.place = 0;
+        }
+        Ok(count)
+    }
+}
+
+impl<S: Read> Read for FirstBytes<S> {
+    ghost remaining = { λ s. option_append (Some (bytes_before s)) (S.remaining (stream_behind s)) };
+
+    fn read(&mut self, buf: &mut [u8]) -> io::Result<usize> {
+        if self.has_bytes() {
+            self.read_first(buf)
+        } else {
+            self.stream.read(buf)
+        }
+    }
+}
