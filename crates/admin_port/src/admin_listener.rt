@@ -387,6 +387,7 @@ fn answer_to<R, A: Answers<R>>(
             Err(_) => None,
         },
         Some(AdminCommand::Stop) => Some(Answer::Stopping),
-        None => Some(Answer::UnknownCommand),
+        // No run takes a new configuration yet.
+        Some(AdminCommand::Reload) | None => Some(Answer::UnknownCommand),
     }
 }
