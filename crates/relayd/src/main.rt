@@ -158,6 +158,11 @@ where
             check(alloc, &mut sources_at(rt, alloc, paths)?, &mut rt.stdout())?;
             Ok(admin::stop(rt, alloc, *admin, true))
         }
+        Invocation::Reload {
+            paths,
+            admin,
+            explain,
+        } => Ok(admin::reload(rt, alloc, *admin, paths, *explain)?),
     }
 }
 
