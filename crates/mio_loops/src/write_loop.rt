@@ -6,6 +6,7 @@ ghost use Rattle.queue_records.specs.Takes.{IsHandedBy};
 ghost use Rattle.mio_loops.specs.WriteTurn.{TurnAt};
 
 use crate::all_destinations::take_turns;
+use crate::left_writer::LeftTaker;
 use crate::outgoing::Outgoing;
 use crate::write_log::WriteLog;
 use crate::write_report::WriteReport;
@@ -163,6 +164,26 @@ impl<W: Write + Drop> WriteLoop<W> {
         } = self;
         for destination in destinations {
             logs.push_reserved(destination.into_log());
+        }
+        logs
+    }
+
+    /// The logs, as [`WriteLoop::close`] returns them. What is left of each destination, with its connection, goes to this taker, in
+    /// their order. It takes no memory.
+    pub fn release<T: LeftTaker<W>>(self, taker: &mut T) -> Vec<WriteLog>
+        ensures { result.items ≡ map (λ o. o.log) self }
+    {
+        let WriteLoop {
+            destinations,
+            mut logs,
+            gathered: _,
+        } = self;
+        let mut dest: usize = 0;
+        for destination in destinations {
+            let (log, left) = destination.into_parts();
+            logs.push_reserved(log);
+            taker.take_left(DestId(dest), left);
+            dest = dest.saturating_add(1);
         }
         logs
     }

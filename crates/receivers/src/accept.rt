@@ -38,6 +38,11 @@ pub trait Accept {
     /// Takes the next connection, and watches it under the token. Without a token it is closed.
     fn accept(&mut self, token: Option<Token>) -> AcceptOutcome<Self::Stream>;
 
+    /// Takes over the connection of a token, which the receiver gives up behind these bytes: those of its unfinished line or frame.
+    /// Whoever reads on is fed these first. Called for each held connection once the receiver was stopped. A listener that hands
+    /// nothing on drops it.
+    fn hand_over(&mut self, _token: Token, _stream: Self::Stream, _rest: &[u8]) {}
+
     /// Takes note of what the receiver has counted since it began. Called ten times a second, or once
     /// a turn where turns are longer, and when the receiver ends.
     fn note_totals(&mut self, totals: ReadTotals);

@@ -14,6 +14,7 @@ mod datagram_loop;
 mod datagram_receiver;
 mod datagram_socket;
 mod datagrams;
+mod handing;
 mod held_stream;
 mod idle_times;
 mod long_words;
