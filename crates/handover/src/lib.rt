@@ -8,7 +8,7 @@
 //!
 //! ```text
 //! let mut stream = FirstBytes::new(alloc, rest, socket); // "a.b 4", and then "2 1700000000\n" comes
-//! let mut rest = RestConnection::new(limit, writer, lent, queued);
+//! let mut rest = RestConnection::new(alloc, limit, writer, lent, queued);
 //! rest.go_on(socket);
 //! rest.send(&mut gathered); // RestTurn::Over(socket), once all is sent
 //! ```

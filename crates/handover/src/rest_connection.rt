@@ -1,6 +1,6 @@
 //! What an ended run left for a destination, and the connection that it goes out on.
 
-ghost use Rattle.std.specs.Prelude.{◌≡◌, ◌≤◌, ◌↔◌, [], true, false, None, Some, IfSome, IsSome, IsTrue};
+ghost use Rattle.std.specs.Prelude.{◌≡◌, ◌≤◌, ◌↔◌, ◌++◌, [], true, false, None, IfSome, IfErr, IsSome, IsTrue, OnOk};
 ghost use Rattle.std.specs.Io.KnownBytes.{Appends};
 ghost use Rattle.dest_writer.specs.Counting.{stream_of};
 ghost use Rattle.dest_writer.specs.Writer.{writer_after_down};
@@ -11,6 +11,7 @@ ghost use Rattle.handover.specs.RestTurn.{IfOver};
 use crate::rest_turn::RestTurn;
 use dest_queue::{Hand, QueuedPoints};
 use dest_writer::{Counting, Driven, GatherBuf, Writer};
+use std::alloc::Global;
 use std::io::Write;
 use std::marker::Model;
 
@@ -28,6 +29,8 @@ pub struct RestConnection<W> {
     // Lent for a batch, and empty before and after.
     lent: Hand,
     queued: QueuedPoints,
+    // What later runs left, which ended before the rest was sent.
+    more: Vec<QueuedPoints>,
     sink: Option<Counting<W>>,
     // Whether the connection takes no more before it is ready.
     is_blocked: bool,
@@ -38,7 +41,13 @@ impl<W> Model for RestConnection<W> {
 
     ghost Value = { RestState W };
 
-    ghost view = { λ r. record { writer = r.writer.writer; queued = r.queued; sink = r.sink } };
+    ghost use Rattle.std.specs.Prelude.{◌++◌, flat_map};
+
+    ghost view = { λ r. record {
+      writer = r.writer.writer;
+      queued = r.queued ++ flat_map (λ points. points) r.more.items;
+      sink = r.sink;
+    } };
 
     ghost invariant = { λ r. IsSoundRest r.limit r.writer r.lent r.sink };
 }
@@ -47,6 +56,7 @@ impl<W: Drop> RestConnection<W> {
     /// What was left by a writer for batches of at most `limit` datapoints, with the hand that was lent it, which is empty and
     /// has room for a batch, and by its queue. There is no connection; the writer may have had one. It takes no memory.
     pub fn new(
+        alloc: Global,
         limit: usize,
         writer: Writer,
         lent: Hand,
@@ -65,8 +75,25 @@ impl<W: Drop> RestConnection<W> {
             writer,
             lent,
             queued,
+            more: Vec::new(alloc),
             sink: None,
             is_blocked: false,
+        }
+    }
+
+    /// Adds what a later run left in its queue, whose writer had no connection, and so nothing in hand. If out of memory, it gives
+    /// that back, and changes nothing.
+    pub fn add(&mut self, points: QueuedPoints) -> Result<(), QueuedPoints>
+        ensures added { OnOk result (self.new
+            ≡ record self.old { queued = self.old.queued ++ points }) }
+        ensures back { IfErr result (λ back. (back ≡ points) × (self.new ≡ self.old)) }
+    {
+        match self.more.reserve(1) {
+            Ok(()) => {
+                self.more.push_reserved(points);
+                Ok(())
+            }
+            Err(_) => Err(points),
         }
     }
 
@@ -74,7 +101,14 @@ impl<W: Drop> RestConnection<W> {
     pub fn is_empty(&self) -> bool
         ensures { IsTrue result → rest_text self.now ≡ [] }
     {
-        self.writer.left() == 0 && self.queued.is_empty()
+        self.writer.left() == 0 && self.is_last_batch()
+    }
+
+    /// Whether nothing is queued behind the hand.
+    fn is_last_batch(&self) -> bool
+        ensures { IsTrue result → self.now.queued ≡ [] }
+    {
+        self.queued.is_empty() && self.more.is_empty()
     }
 
     /// Whether there is a connection.
@@ -189,7 +223,7 @@ impl<W: Write + Drop> RestConnection<W> {
             self.take_batch();
             let driven = self.writer.drive_gathered(gathered, sink).driven;
             let is_idle = matches!(driven, Driven::Idle);
-            if !is_idle || self.queued.is_empty() {
+            if !is_idle || self.is_last_batch() {
                 return driven;
             }
         }
@@ -203,8 +237,18 @@ impl<W: Write + Drop> RestConnection<W> {
         ensures sink { self.new.sink ≡ self.old.sink }
     {
         if self.writer.wants_batch() {
+            self.go_to_next_queue();
             let _taken = self.queued.take(self.limit, &mut self.lent);
             self.writer.fill(&mut self.lent);
+        }
+    }
+
+    /// If all of a queue was taken, goes to that of the next run.
+    fn go_to_next_queue(&mut self)
+        ensures { self.new ≡ self.old }
+    {
+        if self.queued.is_empty() && !self.more.is_empty() {
+            self.queued = self.more.remove(0);
         }
     }
 }
