@@ -1,7 +1,7 @@
 //! What a relay answers to `reload`.
 
 ghost use Rattle.std.specs.Prelude.{◌≡◌, None, Some, MatchOption};
-ghost use Rattle.admin_client.specs.ReloadAnswer.{words_of, behind, reload_end, refusal_in};
+ghost use Rattle.admin_client.specs.ReloadAnswer.{Refused, words_of, behind, reload_end, refusal_in};
 ghost use Rattle.admin_client.specs.ReloadText.{end_of};
 
 /// The answer to `reload` of a relay that runs by the new files.
@@ -62,12 +62,23 @@ fn refusal_in(answer: &[u8]) -> Option<ReloadAnswer<'_>>
     ensures { MatchOption result (refusal_in answer.now ≡ None)
         (λ said. refusal_in answer.now ≡ Some (end_of said)) }
 {
-    for refusal in [Refusal::Configuration, Refusal::Device, Refusal::NoMemory] {
-        if let Some(text) = behind(refusal.words(), answer) {
-            return Some(ReloadAnswer::Refused { refusal, text });
-        }
+    if let Some(text) = behind(Refusal::Configuration.words(), answer) {
+        return Some(refused(Refusal::Configuration, text));
     }
-    None
+    if let Some(text) = behind(Refusal::Device.words(), answer) {
+        return Some(refused(Refusal::Device, text));
+    }
+    match behind(Refusal::NoMemory.words(), answer) {
+        Some(text) => Some(refused(Refusal::NoMemory, text)),
+        None => None,
+    }
+}
+
+/// A refusal for this reason.
+fn refused(refusal: Refusal, text: &[u8]) -> ReloadAnswer<'_>
+    ensures { end_of result ≡ Refused refusal text.now }
+{
+    ReloadAnswer::Refused { refusal, text }
 }
 
 /// What is behind these words, if a text begins with them.

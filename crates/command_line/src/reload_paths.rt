@@ -8,19 +8,12 @@ use clap::error::ErrorKind;
 use clap::{ArgMatches, Error};
 use std::alloc::Global;
 
-/// The options whose values are paths, with what the help calls them.
-static PATHS: [(&str, &str); 3] = [
-    ("config", "--config <FILE>"),
-    ("rules", "--rules <FILE>"),
-    ("rewrite", "--rewrite <FILE>"),
-];
-
 /// The files that the options name; `None` without a configuration file. Refuses a path that a relay with another working
 /// directory would not find: one that does not begin with `/`, has a line break, or has more than 4,096 bytes.
 pub fn reload_paths(alloc: Global, options: &ArgMatches<'_>) -> Result<Option<Paths>, Error> {
-    for (name, option) in PATHS {
-        check_path(alloc, options.get_str(name), option)?;
-    }
+    check_path(alloc, options.get_str("config"), "--config <FILE>")?;
+    check_path(alloc, options.get_str("rules"), "--rules <FILE>")?;
+    check_path(alloc, options.get_str("rewrite"), "--rewrite <FILE>")?;
     if options.get_str("config").is_none() {
         return Ok(None);
     }

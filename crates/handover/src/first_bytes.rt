@@ -71,7 +71,8 @@ impl<S> FirstBytes<S> {
             place,
             stream,
         } = self;
-        bytes.drain(..place);
+        bytes.rotate_left(place);
+        bytes.truncate(bytes.len() - place);
         (bytes, stream)
     }
 
