@@ -6,10 +6,12 @@ use crate::bad_input::{Lines, wrong_with};
 use crate::connection_room::{ConnectionRoom, Place, place_in};
 use crate::connections::Connections;
 use crate::control::{ReceiverControl, shared_control};
+use crate::handed_stream::{HandedStream, HandedStreams};
 use crate::held_stream::HeldStream;
 use crate::optional_notes::OptionalNotes;
 use crate::refusal::{no_descriptor, refused};
 use crate::stream_port::StreamPort;
+use handover::FirstBytes;
 use log_lines::{BadExample, ReceiverNotes};
 use mio::net::{TcpListener, TcpStream};
 use mio_loops::{LISTENER, MOST_CONNECTIONS, ReadTotals, Readiness, ReadinessFault, Token};
@@ -56,6 +58,8 @@ pub struct StreamListener {
     peers: Vec<IpAddr>,
     // The tokens of the last wait, if it returned others than those of what is ready.
     tokens: Vec<Token>,
+    // Where its connections go once it is stopped; without it they are closed.
+    handed: Option<Arc<HandedStreams>>,
 }
 
 /// What watches a listener and its connections.
@@ -147,6 +151,7 @@ impl StreamListener {
                 step: ClosingStep::Open,
                 peers: watch.peers,
                 tokens: watch.tokens,
+                handed: None,
             }),
             Err(fault) => {
                 drop((listener, room));
@@ -172,10 +177,30 @@ impl StreamListener {
         Ok(Arc::try_clone(&self.connections.control)?)
     }
 
+    /// Once the receiver is stopped, its connections go here, and are not closed.
+    pub fn set_handed(&mut self, handed: Arc<HandedStreams>) {
+        self.handed = Some(handed);
+    }
+
+    /// Takes a connection that another receiver handed over, and watches it under the token, as if it were new; but what is to be
+    /// read first comes first. Without a token it is closed.
+    pub fn resume(&mut self, token: Option<Token>, handed: HandedStream) -> AcceptOutcome<HeldStream> {
+        let HandedStream {
+            stream,
+            peer,
+            first,
+            place,
+        } = handed;
+        self.notes.note_taken();
+        self.note_peer(token, peer);
+        self.watch(stream, first, token, place)
+    }
+
     /// Watches a connection under a token. One that has none, or that the system does not watch, is dropped.
     fn watch(
         &self,
         stream: TcpStream,
+        first: Vec<u8>,
         token: Option<Token>,
         place: Option<Place>,
     ) -> AcceptOutcome<HeldStream> {
@@ -190,7 +215,7 @@ impl StreamListener {
             Ok(()) => {
                 let held = HeldStream::new(
                     self.alloc,
-                    stream,
+                    FirstBytes::new(self.alloc, first, stream),
                     token,
                     self.kind,
                     connections,
@@ -293,9 +318,20 @@ impl Accept for StreamListener {
                 } else {
                     self.notes.note_taken();
                 }
-                self.watch(stream, token, place)
+                self.watch(stream, Vec::new(self.alloc), token, place)
             }
             Err(error) => self.note_refusal(&error),
+        }
+    }
+
+    fn hand_over(&mut self, token: Token, stream: HeldStream, rest: &[u8]) {
+        let Some(handed) = &self.handed else {
+            drop(stream);
+            return;
+        };
+        let peer = self.peers.get(token.0).copied().unwrap_or(NO_PEER);
+        if let Some(stream) = stream.hand_over(rest, peer) {
+            handed.put(stream);
         }
     }
 

@@ -138,6 +138,10 @@ impl<'s, A: Accept> Accept for SharedListener<'s, A> {
         }
     }
 
+    fn hand_over(&mut self, token: Token, stream: SharedStream<'s, A::Stream>, rest: &[u8]) {
+        self.listener.hand_over(token, stream.into_stream(), rest);
+    }
+
     fn note_totals(&mut self, totals: ReadTotals) {
         self.listener.note_totals(totals);
     }

@@ -1,0 +1,49 @@
+//! Connections that a receiver hands over.
+
+use crate::connection_room::Place;
+use mio::net::TcpStream;
+use relay_base::NoMemory;
+use std::alloc::Global;
+use std::mem;
+use std::net::IpAddr;
+use std::sync::{Arc, Mutex};
+
+/// A connection that a receiver hands over: its socket, the address of its producer, the bytes that whoever reads on is fed first,
+/// and its place, if places are limited.
+#[derive(Drop)]
+pub struct HandedStream {
+    pub(crate) stream: TcpStream,
+    pub(crate) peer: IpAddr,
+    pub(crate) first: Vec<u8>,
+    pub(crate) place: Option<Place>,
+}
+
+/// Where a receiver puts the connections that it hands over, for the thread that stopped it.
+#[derive(Drop)]
+pub struct HandedStreams {
+    streams: Mutex<Vec<HandedStream>>,
+}
+
+impl HandedStreams {
+    /// None yet; or out of memory.
+    pub fn new(alloc: Global) -> Result<Arc<HandedStreams>, NoMemory> {
+        let streams = Mutex::new(Vec::new(alloc));
+        Ok(Arc::new(alloc, HandedStreams { streams })?)
+    }
+
+    /// Adds a connection. Without memory for it it is closed.
+    pub(crate) fn put(&self, stream: HandedStream) {
+        // Nobody else looks before the receiver has ended.
+        if let Some(mut streams) = self.streams.try_lock() {
+            let _kept = streams.push(stream);
+        }
+    }
+
+    /// Takes all connections, in the order of their tokens. The receiver has ended.
+    pub fn take(&self, alloc: Global) -> Vec<HandedStream> {
+        match self.streams.try_lock() {
+            Some(mut streams) => mem::replace(&mut *streams, Vec::new(alloc)),
+            None => Vec::new(alloc),
+        }
+    }
+}
