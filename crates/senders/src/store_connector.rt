@@ -3,6 +3,7 @@
 use crate::alarm::Alarm;
 use crate::connect::Connect;
 use crate::host_lookup::HostLookup;
+use crate::kept_socket::KeptSocket;
 use crate::link::Link;
 use crate::lookup::Lookup;
 use crate::resolve::Resolve;
@@ -89,6 +90,35 @@ impl<'g, R: Net + Drop, L: Lookup + Drop> StoreConnector<'g, R, L> {
     /// destination that has none are not noted.
     pub fn set_notes(&mut self, notes: &'g [DestNotes]) {
         self.notes = notes;
+    }
+}
+
+impl<'g, R: Net + Drop, L: Lookup + Drop> StoreConnector<'g, R, L> {
+    /// The connection of a destination, for another sender, once its stream was given up ([`StoreStream::give_up`]) after this many
+    /// bytes of a begun line. `None` if there is none, or if it takes no more.
+    pub fn take_socket(&mut self, dest: DestId, begun: usize) -> Option<KeptSocket> {
+        let Some(Some(link)) = self.links.get_mut(dest.0) else {
+            return None;
+        };
+        let socket = link.take_socket()?;
+        Some(KeptSocket { socket, begun })
+    }
+
+    /// Takes over the connection of a destination from another sender: it goes on here. `None` if the system does not watch it, or
+    /// the destination is not of this sender; the connection is closed then.
+    pub fn keep(&mut self, dest: DestId, kept: KeptSocket) -> Option<StoreStream<'g>> {
+        let KeptSocket { socket, begun } = kept;
+        let Some(Some(link)) = self.links.get_mut(dest.0) else {
+            drop(socket);
+            return None;
+        };
+        let mut socket = socket;
+        if self.readiness.add_stream(&mut socket, Token(dest.0)).is_err() {
+            drop(socket);
+            return None;
+        }
+        let wire = link.keep(socket)?;
+        Some(StoreStream::resumed(wire, begun, self.notes.get(dest.0)))
     }
 }
 
