@@ -1,5 +1,5 @@
 -- The settings that a running relay keeps: those of its ports.
-use Rattle.std.specs.Prelude.{ℕ, Bool, not, ◌==◌, List, Option, None, Some, if◌then◌else◌}
+use Rattle.std.specs.Prelude.{Bool, not, ◌==◌, Option, None, Some, if◌then◌else◌}
 use Rattle.std.specs.Str.{bytes_eq}
 use Rattle.conf_text.specs.SettingsTable.{ReceivingValues}
 use Rattle.conf_text.specs.declared.setting.Setting.{Setting}

@@ -1,7 +1,6 @@
 -- A connection that goes on at another reader.
 use Rattle.std.proofs.Common.{◌≡◌, ℕ, ◌+◌, inl, inr, Bool, true, false, cond, List, [], ◌∷◌, ◌++◌, refl, ap, sym, ◌∙◌, subst}
 use Rattle.std.proofs.lemmas.Bool.{cases_Bool}
-use Rattle.line_text.specs.Datapoint.{Datapoint}
 use Rattle.line_text.specs.Line.{Line, points, bad_count}
 use Rattle.line_text.specs.Connection.{Arrival, arrivals, Texts, cut, cut_from, cut_with, is_newline, is_open, accepted_points, bad_lines}
 use Rattle.line_text.specs.Laws.{ReadsOn}

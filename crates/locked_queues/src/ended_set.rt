@@ -20,8 +20,8 @@ pub struct LeftQueue {
 }
 
 impl<B: Set> Queues<B> {
-    /// Ends the queues, and adds what each leaves to a list that has room for all, in the order of the destinations. It waits for no
-    /// lock, and takes no memory.
+    /// Ends the queues, and adds what each leaves to a list that has room for all, in the order of the destinations. It waits
+    /// for no lock, and takes no memory.
     pub fn end(self, left: &mut Vec<LeftQueue>)
         requires room { vec_len left.old + B.dests ≤ vec_capacity left.old }
         ensures count { vec_len left.new ≡ vec_len left.old + B.dests }

@@ -168,8 +168,8 @@ impl<W: Write + Drop> WriteLoop<W> {
         logs
     }
 
-    /// The logs, as [`WriteLoop::close`] returns them. What is left of each destination, with its connection, goes to this taker, in
-    /// their order. It takes no memory.
+    /// The logs, as [`WriteLoop::close`] returns them. What is left of each destination, with its connection, goes to this
+    /// taker, in their order. It takes no memory.
     pub fn release<T: LeftTaker<W>>(self, taker: &mut T) -> Vec<WriteLog>
         ensures { result.items ≡ map (λ o. o.log) self }
     {

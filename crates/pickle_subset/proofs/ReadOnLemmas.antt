@@ -1,8 +1,7 @@
 -- A connection that goes on at another reader.
 use Rattle.std.proofs.Common.{◌≡◌, ℕ, false, List, [], ◌++◌, refl, ap, sym, ◌∙◌}
-use Rattle.line_text.specs.Datapoint.{Datapoint}
 use Rattle.line_text.specs.Connection.{Arrival, arrivals}
-use Rattle.pickle_subset.specs.Frame.{Frame, Reception, nothing, receive, reception, frames, is_closed}
+use Rattle.pickle_subset.specs.Frame.{Reception, nothing, receive, reception, frames, is_closed}
 use Rattle.pickle_subset.specs.Accepted.{points, accepted_points}
 use Rattle.pickle_subset.specs.Laws.{ReadsOn}
 use Rattle.pickle_subset.proofs.FeedLemmas.{same_reception}

@@ -1,4 +1,4 @@
-use Rattle.std.proofs.Common.{◌≡◌, ℕ, ◌+◌, ◌-◌, arith}
+use Rattle.std.proofs.Common.{◌≡◌, ◌+◌, ◌-◌, arith}
 use Rattle.dest_queue.specs.EarlierCounts.{sum}
 use Rattle.dest_queue.proofs.laws.no_step_back.Goals as goal
 
