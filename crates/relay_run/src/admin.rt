@@ -138,8 +138,17 @@ fn answer_until_stopped<R: Wait + Clock + Net, B: Set>(
         if listener.take_turn(rt, alloc, &watched, millis, PAUSE_MS) {
             return;
         }
+        refuse_reload(alloc, listener, millis);
     }
     unreachable!()
+}
+
+/// Refuses a reload, if a connection has asked for one: no run takes a new configuration yet.
+fn refuse_reload(alloc: Global, listener: &mut AdminListener, millis: u64) {
+    if let Some(asked) = listener.next_reload(alloc) {
+        listener.refuse_reload(asked.connection, millis);
+        drop(asked);
+    }
 }
 
 /// Answers commands while the receivers close: they read what was sent to them, for half a second at most.
@@ -159,6 +168,7 @@ fn answer_while_closing<R: Wait + Clock + Net, B: Set>(
             return;
         }
         let _is_stopped = listener.take_turn(rt, alloc, &watched, millis, CLOSING_PAUSE_MS);
+        refuse_reload(alloc, listener, millis);
     }
     unreachable!()
 }
@@ -182,6 +192,7 @@ fn answer_while_draining<R: Wait + Clock + Net, B: Set>(
             return;
         }
         let _is_stopped = listener.take_turn(rt, alloc, &watched, millis, DRAIN_PAUSE_MS);
+        refuse_reload(alloc, listener, millis);
     }
     unreachable!()
 }
@@ -204,6 +215,7 @@ fn answer_while_spooling<R: Wait + Clock + Net, B: Set>(
             return;
         }
         let _is_stopped = listener.take_turn(rt, alloc, &watched, millis, SPOOL_PAUSE_MS);
+        refuse_reload(alloc, listener, millis);
     }
     unreachable!()
 }
