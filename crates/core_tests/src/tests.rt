@@ -2,6 +2,7 @@
 
 mod configuration_files;
 mod configurations;
+mod handed_over;
 mod hostile_pickles;
 mod line_pieces;
 mod names;
