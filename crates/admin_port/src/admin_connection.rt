@@ -18,7 +18,6 @@ pub(crate) const LEAST_PATIENCE_MS: u64 = 100;
 /// The room for a command: its text, a byte 13 and a byte 10.
 const COMMAND_ROOM: usize = LONGEST_COMMAND + 2;
 
-
 /// The state of a connection.
 #[derive(Clone, Copy)]
 enum AdminStage {

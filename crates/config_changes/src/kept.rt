@@ -3,8 +3,8 @@
 ghost use Rattle.std.specs.Prelude.{◌≡◌, map, option_map, IfOk};
 ghost use Rattle.config_changes.specs.Kept.{place_of, kept_places};
 
-use conf_text::{Dest, DestId};
-use relay_base::NoMemory;
+use conf_text::Dest;
+use relay_base::{DestId, NoMemory};
 use std::alloc::Global;
 
 /// The place of a destination in a list: the first that has its host, port and instance. `None` if it is not there.

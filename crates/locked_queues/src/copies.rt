@@ -30,7 +30,7 @@ struct Copied {
 /// What each queue has counted. No thread has a lock, since they are borrowed as a whole.
 pub(crate) fn counts_of_all<B: Set>(
     alloc: Global,
-    locks: &mut Vec<CachePadded<Mutex<Locked<B>>>>,
+    locks: &mut Vec<CachePadded<Mutex<LockedQueue<B>>>>,
 ) -> Result<Vec<Counts>, NoMemory>
     ensures locks { vec_len locks.new ≡ vec_len locks.old }
     ensures counts { IfOk result (λ counts. vec_len counts ≡ vec_len locks.old) }
@@ -43,7 +43,7 @@ pub(crate) fn counts_of_all<B: Set>(
 }
 
 /// What a queue has counted.
-fn counts_under<B: Set>(lock: &mut CachePadded<Mutex<Locked<B>>>) -> Counts {
+fn counts_under<B: Set>(lock: &mut CachePadded<Mutex<LockedQueue<B>>>) -> Counts {
     lock.get_mut().queue.counts()
 }
 

@@ -2,7 +2,7 @@
 ghost use Rattle.std.specs.Prelude.{◌≡◌, ◌+◌, ◌≤◌};
 ghost use Rattle.std.specs.Vec.{vec_len, vec_capacity};
 
-use crate::locked::Locked;
+use crate::locked::LockedQueue;
 use crate::queues::Queues;
 use crate::shares::Set;
 use crossbeam_utils::CachePadded;
@@ -41,8 +41,8 @@ impl<B: Set> Queues<B> {
 }
 
 /// What the queue behind a lock leaves.
-fn left_under<B: Set>(lock: CachePadded<Mutex<Locked<B>>>) -> LeftQueue {
-    let Locked {
+fn left_under<B: Set>(lock: CachePadded<Mutex<LockedQueue<B>>>) -> LeftQueue {
+    let LockedQueue {
         dest: _,
         queue,
         offered,

@@ -2,7 +2,7 @@
 
 ghost use Rattle.std.specs.Prelude.{◌≡◌, ◌≤◌, []};
 
-use conf_text::DestId;
+use relay_base::DestId;
 use dest_queue::Hand;
 use dest_writer::Writer;
 

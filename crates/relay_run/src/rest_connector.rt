@@ -2,11 +2,11 @@
 
 ghost use Rattle.std.specs.Prelude.{◌≡◌, ◌≤◌, IfErr};
 
-use conf_text::{DestId, MOST_DESTINATIONS};
+use conf_text::MOST_DESTINATIONS;
 use dest_writer::GatherBuf;
 use handover::{RestConnection, RestTurn};
 use mio_loops::{LeftWriter, ReadinessFault};
-use relay_base::NoMemory;
+use relay_base::{DestId, NoMemory};
 use senders::Connect;
 use std::alloc::Global;
 
