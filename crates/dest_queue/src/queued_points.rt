@@ -1,5 +1,5 @@
 //! The datapoints that a queue held at its end.
-ghost use Rattle.std.specs.Prelude.{◌≡◌, ◌≤◌, ◌↔◌, [], length, take, drop, IsTrue};
+ghost use Rattle.std.specs.Prelude.{◌≡◌, ℕ, ◌≤◌, ◌↔◌, [], ◌+◌, ◌++◌, length, min, take, drop, IsTrue};
 
 use crate::hand::Hand;
 use line_text::Point;
@@ -54,6 +54,25 @@ impl QueuedPoints {
         ensures { IsTrue result ↔ (self.now ≡ []) }
     {
         self.points.is_empty()
+    }
+
+    /// Adds those of a later queue behind them, the oldest first, as many as their own room has places for and at most `most` in
+    /// all; the others are dropped. Returns how many these are. It takes no memory.
+    pub fn add(&mut self, later: QueuedPoints, most: usize) -> usize
+        ensures added { (kept : ℕ) × (self.new ≡ self.old ++ take kept later)
+            × (length later ≡ min kept (length later) + result) }
+    {
+        let QueuedPoints { mut points } = later;
+        let most = most.min(self.points.capacity());
+        for _ in 0..points.len() {
+            if self.points.len() >= most {
+                break;
+            }
+            if let Some(point) = points.pop_front() {
+                self.points.push_back_reserved(point);
+            }
+        }
+        points.len()
     }
 
     /// Hands over the oldest datapoints, at most `limit`, and returns how many. The hand is empty ([`Hand::is_empty`]) and has

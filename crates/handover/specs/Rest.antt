@@ -7,6 +7,17 @@ use Rattle.dest_queue.specs.PointsInHand.{PointsInHand}
 use Rattle.dest_writer.specs.Writer.{WriterState, SizedWriter, bytes_left, writer_after_down}
 use Rattle.dest_writer.specs.declared.counting.Counting.{Counting}
 
+-- what an ended run left for a destination
+pub record RestLeft : Type 0 where
+  -- the writer of that run: its hand, how much of the hand's text was taken, and whether there is a connection
+  pub writer : WriterState
+  -- what was queued behind the hand
+  pub queued : List Datapoint
+
+-- what connections lack of it: of the hand's text, from the very byte on, and then the lines of what was queued
+abbrev pub left_text : RestLeft → List ℕ
+left_text rest = bytes_left rest.writer ++ printed_lines rest.queued
+
 pub record RestState (W : Type 0) : Type 0 where
   -- the writer of that run: its hand, how much of the hand's text was taken, and whether there is a connection
   pub writer : WriterState
@@ -15,14 +26,12 @@ pub record RestState (W : Type 0) : Type 0 where
   -- the connection that it goes out on, if there is one
   pub sink : Option (Counting W)
 
--- the writer's limit, the hand that is lent for a batch, and the connection
-pub record IsSoundRest {W : Type 0} (limit : ℕ) (sized : SizedWriter) (lent : PointsInHand)
-    (sink : Option (Counting W)) : Type 0 where
+-- the writer's limit, and the hand that is lent for a batch
+pub record IsSoundRest (limit : ℕ) (sized : SizedWriter) (lent : PointsInHand) : Type 0 where
   pub least : 1 ≤ limit
   pub fits : sized.limit ≡ limit
   pub empty : lent.points ≡ []
   pub room : limit ≤ lent.room
-  pub up : IsSome sink → sized.writer.up ≡ true
 
 module _ {W : Type 0} where
   -- what the connection gets: what it lacks of the hand's text, from the very byte on, and then the lines of what was queued

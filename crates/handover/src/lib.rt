@@ -8,16 +8,18 @@
 //!
 //! ```text
 //! let mut stream = FirstBytes::new(alloc, rest, socket); // "a.b 4", and then "2 1700000000\n" comes
-//! let mut rest = RestConnection::new(alloc, limit, writer, lent, queued);
+//! let mut rest = RestConnection::new(Rest::new(limit, writer, lent, queued));
 //! rest.go_on(socket);
 //! rest.send(&mut gathered); // RestTurn::Over(socket), once all is sent
 //! ```
 #![tactic(auto)]
 
 mod first_bytes;
+mod rest;
 mod rest_connection;
 mod rest_turn;
 
 pub use first_bytes::FirstBytes;
+pub use rest::Rest;
 pub use rest_connection::{MOST_BATCHES, RestConnection};
 pub use rest_turn::RestTurn;

@@ -1,17 +1,16 @@
 //! What an ended run left for a destination, and the connection that it goes out on.
 
-ghost use Rattle.std.specs.Prelude.{◌≡◌, ◌≤◌, ◌↔◌, ◌++◌, [], true, false, None, IfSome, IfErr, IsSome, IsTrue, OnOk};
+ghost use Rattle.std.specs.Prelude.{◌≡◌, ◌↔◌, [], true, false, None, IfSome, IsSome, IsTrue};
 ghost use Rattle.std.specs.Io.KnownBytes.{Appends};
 ghost use Rattle.dest_writer.specs.Counting.{stream_of};
 ghost use Rattle.dest_writer.specs.Writer.{writer_after_down};
 ghost use Rattle.dest_writer.specs.declared.driven.Driven.TheVariants.{Idle};
-ghost use Rattle.handover.specs.Rest.{TookFirst, rest_text, without_connection};
+ghost use Rattle.handover.specs.Rest.{TookFirst, rest_text, left_text, without_connection};
 ghost use Rattle.handover.specs.RestTurn.{IfOver};
 
+use crate::rest::Rest;
 use crate::rest_turn::RestTurn;
-use dest_queue::{Hand, QueuedPoints};
-use dest_writer::{Counting, Driven, GatherBuf, Writer};
-use std::alloc::Global;
+use dest_writer::{Counting, Driven, GatherBuf};
 use std::io::Write;
 use std::marker::Model;
 
@@ -24,91 +23,62 @@ pub const MOST_BATCHES: usize = 16;
 /// Clauses see it as the writer of that run, what was queued behind its hand, and the connection.
 #[derive(Drop)]
 pub struct RestConnection<W> {
-    limit: usize,
-    writer: Writer,
-    // Lent for a batch, and empty before and after.
-    lent: Hand,
-    queued: QueuedPoints,
-    // What later runs left, which ended before the rest was sent.
-    more: Vec<QueuedPoints>,
+    rest: Rest,
     sink: Option<Counting<W>>,
     // Whether the connection takes no more before it is ready.
     is_blocked: bool,
+    ghost up: { IsSome sink → rest.writer.up ≡ true },
 }
 
 impl<W> Model for RestConnection<W> {
-    ghost use Rattle.handover.specs.Rest.{RestState, IsSoundRest};
+    ghost use Rattle.handover.specs.Rest.{RestState};
 
     ghost Value = { RestState W };
 
-    ghost use Rattle.std.specs.Prelude.{◌++◌, flat_map};
-
     ghost view = { λ r. record {
-      writer = r.writer.writer;
-      queued = r.queued ++ flat_map (λ points. points) r.more.items;
+      writer = r.rest.writer;
+      queued = r.rest.queued;
       sink = r.sink;
     } };
-
-    ghost invariant = { λ r. IsSoundRest r.limit r.writer r.lent r.sink };
 }
 
 impl<W: Drop> RestConnection<W> {
-    /// What was left by a writer for batches of at most `limit` datapoints, with the hand that was lent it, which is empty and
-    /// has room for a batch, and by its queue. There is no connection; the writer may have had one. It takes no memory.
-    pub fn new(
-        alloc: Global,
-        limit: usize,
-        writer: Writer,
-        lent: Hand,
-        queued: QueuedPoints,
-    ) -> RestConnection<W>
-        requires least { 1 ≤ limit }
-        requires fits { writer.limit ≡ limit }
-        requires empty { lent.points ≡ [] }
-        requires room { limit ≤ lent.room }
-        ensures writer { result.writer ≡ writer.writer }
-        ensures queued { result.queued ≡ queued }
+    /// What was left, without a connection; the writer may have had one.
+    pub fn new(rest: Rest) -> RestConnection<W>
+        ensures writer { result.writer ≡ rest.writer }
+        ensures queued { result.queued ≡ rest.queued }
         ensures none { result.sink ≡ None }
     {
         RestConnection {
-            limit,
-            writer,
-            lent,
-            queued,
-            more: Vec::new(alloc),
+            rest,
             sink: None,
             is_blocked: false,
         }
     }
 
-    /// Adds what a later run left in its queue, whose writer had no connection, and so nothing in hand. If out of memory, it gives
-    /// that back, and changes nothing.
-    pub fn add(&mut self, points: QueuedPoints) -> Result<(), QueuedPoints>
-        ensures added { OnOk result (self.new
-            ≡ record self.old { queued = self.old.queued ++ points }) }
-        ensures back { IfErr result (λ back. (back ≡ points) × (self.new ≡ self.old)) }
+    /// What is left, and the connection, if there is one: it may go on elsewhere ([`RestConnection::go_on`]).
+    pub fn into_parts(self) -> (Rest, Option<W>)
+        ensures writer { result.0.writer ≡ self.writer }
+        ensures queued { result.0.queued ≡ self.queued }
+        ensures sink { IfSome self.sink (λ had. IfSome result.1 (λ sink. stream_of had ≡ sink)) }
     {
-        match self.more.reserve(1) {
-            Ok(()) => {
-                self.more.push_reserved(points);
-                Ok(())
-            }
-            Err(_) => Err(points),
+        let RestConnection {
+            rest,
+            sink,
+            is_blocked: _,
+        } = self;
+        match sink {
+            Some(sink) => (rest, Some(sink.into_stream())),
+            None => (rest, None),
         }
     }
 
-    /// Whether nothing is left: no connection has to take anything.
-    pub fn is_empty(&self) -> bool
-        ensures { IsTrue result → rest_text self.now ≡ [] }
+    /// What is left.
+    pub fn rest(&self) -> &Rest
+        ensures writer { result.now.writer ≡ self.now.writer }
+        ensures queued { result.now.queued ≡ self.now.queued }
     {
-        self.writer.left() == 0 && self.is_last_batch()
-    }
-
-    /// Whether nothing is queued behind the hand.
-    fn is_last_batch(&self) -> bool
-        ensures { IsTrue result → self.now.queued ≡ [] }
-    {
-        self.queued.is_empty() && self.more.is_empty()
+        &self.rest
     }
 
     /// Whether there is a connection.
@@ -149,7 +119,7 @@ impl<W: Drop> RestConnection<W> {
         ensures open { IsSome self.new.sink }
     {
         self.lose();
-        let _ = self.writer.up();
+        let _ = self.rest.writer.up();
         self.is_blocked = false;
         self.sink = Some(Counting::new(sink));
     }
@@ -163,8 +133,7 @@ impl<W: Drop> RestConnection<W> {
         ensures queued { self.new.queued ≡ self.old.queued }
     {
         self.sink = None;
-        // Refuses if there was no connection, and changes nothing then.
-        let _ = self.writer.down();
+        self.rest.lose();
     }
 }
 
@@ -189,13 +158,13 @@ impl<W: Write + Drop> RestConnection<W> {
             return RestTurn::Kept;
         };
         let mut sink = sink;
-        match self.send_batches(gathered, &mut sink) {
+        match send_batches(&mut self.rest, gathered, &mut sink) {
             Driven::Idle => {
-                let _ = self.writer.down();
+                self.rest.lose();
                 RestTurn::Over(sink.into_stream())
             }
             Driven::Failed => {
-                let _ = self.writer.down();
+                self.rest.lose();
                 RestTurn::Lost
             }
             Driven::Blocked => {
@@ -209,46 +178,26 @@ impl<W: Write + Drop> RestConnection<W> {
             }
         }
     }
+}
 
-    /// Sends some batches to the connection. Returns how the last drive ended; `Idle` only if nothing is left.
-    fn send_batches(&mut self, gathered: &mut GatherBuf, sink: &mut Counting<W>) -> Driven
-        requires up { self.old.writer.up ≡ true }
-        ensures took { TookFirst (rest_text self.old) (rest_text self.new)
-            (W.contents (stream_of sink.old)) (W.contents (stream_of sink.new)) }
-        ensures idle { result ≡ Idle → rest_text self.new ≡ [] }
-        ensures up { self.new.writer.up ≡ true }
-        ensures sink { self.new.sink ≡ self.old.sink }
-    {
-        for _ in 0..MOST_BATCHES {
-            self.take_batch();
-            let driven = self.writer.drive_gathered(gathered, sink).driven;
-            let is_idle = matches!(driven, Driven::Idle);
-            if !is_idle || self.is_last_batch() {
-                return driven;
-            }
-        }
-        Driven::Again
-    }
-
-    /// Takes the next batch in hand, if one is wanted.
-    fn take_batch(&mut self)
-        ensures text { rest_text self.new ≡ rest_text self.old }
-        ensures up { self.new.writer.up ≡ self.old.writer.up }
-        ensures sink { self.new.sink ≡ self.old.sink }
-    {
-        if self.writer.wants_batch() {
-            self.go_to_next_queue();
-            let _taken = self.queued.take(self.limit, &mut self.lent);
-            self.writer.fill(&mut self.lent);
+/// Sends some batches of a rest to its connection. Returns how the last drive ended; `Idle` only if nothing is left.
+fn send_batches<W: Write + Drop>(
+    rest: &mut Rest,
+    gathered: &mut GatherBuf,
+    sink: &mut Counting<W>,
+) -> Driven
+    requires up { rest.old.writer.up ≡ true }
+    ensures took { TookFirst (left_text rest.old) (left_text rest.new)
+        (W.contents (stream_of sink.old)) (W.contents (stream_of sink.new)) }
+    ensures idle { result ≡ Idle → left_text rest.new ≡ [] }
+{
+    for _ in 0..MOST_BATCHES {
+        rest.take_batch();
+        let driven = rest.writer.drive_gathered(gathered, sink).driven;
+        let is_idle = matches!(driven, Driven::Idle);
+        if !is_idle || rest.is_last_batch() {
+            return driven;
         }
     }
-
-    /// If all of a queue was taken, goes to that of the next run.
-    fn go_to_next_queue(&mut self)
-        ensures { self.new ≡ self.old }
-    {
-        if self.queued.is_empty() && !self.more.is_empty() {
-            self.queued = self.more.remove(0);
-        }
-    }
+    Driven::Again
 }

@@ -21,6 +21,7 @@ pub(crate) fn hand_over_if<A: Accept>(
     for token in 0..MOST_CONNECTIONS {
         hand_over_one(listener, reads, Token(token));
     }
+    listener.hand_over_others();
 }
 
 /// Gives the listener the connection of a token, if it is held.

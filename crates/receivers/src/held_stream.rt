@@ -146,6 +146,7 @@ impl HeldStream {
             alloc,
             place,
         } = self;
+        let last_unit = connections.idle.last_of(token);
         connections.idle.note_left(token);
         connections.control.note_left(is_early);
         let (unread, stream) = stream.into_parts();
@@ -159,6 +160,7 @@ impl HeldStream {
             peer,
             first,
             place,
+            last_unit,
         })
     }
 }

@@ -29,6 +29,9 @@ const MOST_TOKENS: usize = 2 * MOST_CONNECTIONS + 3;
 /// The address of a connection that never was.
 const NO_PEER: IpAddr = IpAddr::V4(Ipv4Addr::UNSPECIFIED);
 
+/// What a wait returns while connections are left that were handed over.
+static ONLY_LISTENER: [Token; 1] = [LISTENER];
+
 /// How far a listener has closed.
 #[derive(Clone, Copy, PartialEq)]
 enum ClosingStep {
@@ -60,6 +63,8 @@ pub struct StreamListener {
     tokens: Vec<Token>,
     // Where its connections go once it is stopped; without it they are closed.
     handed: Option<Arc<HandedStreams>>,
+    // The connections of an ended run that it takes first, the last one first.
+    resumed: Vec<HandedStream>,
 }
 
 /// What watches a listener and its connections.
@@ -152,6 +157,7 @@ impl StreamListener {
                 peers: watch.peers,
                 tokens: watch.tokens,
                 handed: None,
+                resumed: Vec::new(alloc),
             }),
             Err(fault) => {
                 drop((listener, room));
@@ -177,23 +183,33 @@ impl StreamListener {
         Ok(Arc::try_clone(&self.connections.control)?)
     }
 
-    /// Once the receiver is stopped, its connections go here, and are not closed.
+    /// Takes first the connections that are there, which the receiver of an ended run handed over, as if they were new; but the bytes
+    /// that were not read come first. Once the receiver is stopped, its connections go there, if they are handed over.
     pub fn set_handed(&mut self, handed: Arc<HandedStreams>) {
+        let mut resumed = handed.take(self.alloc);
+        resumed.reverse();
+        self.resumed = resumed;
         self.handed = Some(handed);
     }
 
-    /// Takes a connection that another receiver handed over, and watches it under the token, as if it were new; but what is to be
-    /// read first comes first. Without a token it is closed.
-    pub fn resume(&mut self, token: Option<Token>, handed: HandedStream) -> AcceptOutcome<HeldStream> {
+    /// Takes the next connection that was handed over, if there is one, and watches it under the token. Without a token it is closed.
+    fn resume(&mut self, token: Option<Token>) -> AcceptOutcome<HeldStream> {
+        let Some(handed) = self.resumed.pop() else {
+            return AcceptOutcome::Nothing;
+        };
         let HandedStream {
             stream,
             peer,
             first,
             place,
+            last_unit,
         } = handed;
-        self.notes.note_taken();
         self.note_peer(token, peer);
-        self.watch(stream, first, token, place)
+        let watched = self.watch(stream, first, token, place);
+        if let Some(token) = token {
+            self.connections.idle.note_unit_at(token, last_unit);
+        }
+        watched
     }
 
     /// Watches a connection under a token. One that has none, or that the system does not watch, is dropped.
@@ -284,6 +300,10 @@ impl Accept for StreamListener {
     }
 
     fn wait(&mut self, millis: u64) -> Result<&[Token], ReadinessFault> {
+        if self.has_handed() {
+            // What was taken is served meanwhile, since each is in the again list at first.
+            return Ok(&ONLY_LISTENER);
+        }
         let is_stepping = self.take_step();
         let control = &self.connections.control;
         if !is_stepping && !self.connections.idle.is_look_due() {
@@ -302,7 +322,14 @@ impl Accept for StreamListener {
         Ok(self.tokens.as_slice())
     }
 
+    fn has_handed(&self) -> bool {
+        !self.resumed.is_empty()
+    }
+
     fn accept(&mut self, token: Option<Token>) -> AcceptOutcome<HeldStream> {
+        if self.has_handed() {
+            return self.resume(token);
+        }
         let Ok(place) = place_in(&self.room) else {
             return self.note_refusal(&no_descriptor());
         };
@@ -329,9 +356,21 @@ impl Accept for StreamListener {
             drop(stream);
             return;
         };
+        if !handed.is_open() {
+            drop(stream);
+            return;
+        }
         let peer = self.peers.get(token.0).copied().unwrap_or(NO_PEER);
         if let Some(stream) = stream.hand_over(rest, peer) {
             handed.put(stream);
+        }
+    }
+
+    fn hand_over_others(&mut self) {
+        for _ in 0..self.resumed.len() {
+            if let (Some(stream), Some(handed)) = (self.resumed.pop(), &self.handed) {
+                handed.put(stream);
+            }
         }
     }
 

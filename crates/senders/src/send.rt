@@ -43,20 +43,22 @@ pub fn send_batches<R: Wait, N: Connect + Drop, S: Supply + Drop, T: TimeSource,
     ensures fault { EndsFor result.fault result.logs.items (S.record_of supply)
         (S.record_of result.outlet) }
 {
+    let mut connector = connector;
     let Ok(mut writes) = WriteLoop::new(alloc, dests, limit) else {
+        connector.end();
         return SenderRecord {
             outlet: supply,
             logs: no_logs(alloc, dests),
             fault: Some(ReadinessFault::NoMemory),
         };
     };
-    let mut connector = connector;
     let mut supply = CountedSupply::new(supply);
     let fault = take_turns(rt, &mut connector, &mut writes, &mut supply, times, stop);
     end_connections(rt, &mut connector, times);
     let logs = writes.release(&mut ToConnector {
         connector: &mut connector,
     });
+    connector.end();
     SenderRecord {
         outlet: supply.into_supply(),
         logs,
@@ -90,6 +92,7 @@ fn take_turns<R: Wait, N: Connect, S: Supply, T: TimeSource, F: StopFlag>(
 }
 
 /// A connector that takes what a loop leaves.
+#[derive(Drop)]
 struct ToConnector<'c, N> {
     connector: &'c mut N,
 }

@@ -6,7 +6,7 @@ ghost use Rattle.std.specs.Prelude.{◌≡◌, true, IfSome};
 use crate::tests::writer_lines::{TEXT, queue_of};
 use dest_queue::{Hand, QueuedPoints};
 use dest_writer::{GatherBuf, Writer};
-use handover::{FirstBytes, RestConnection, RestTurn};
+use handover::{FirstBytes, Rest, RestConnection, RestTurn};
 use std::alloc::Global;
 use std::io;
 use std::io::{ErrorKind, Read, Write};
@@ -104,13 +104,8 @@ fn rest_of(alloc: Global) -> Option<RestConnection<Slow>>
     if writer.wrote(8).is_err() {
         return None;
     }
-    Some(RestConnection::new(
-        alloc,
-        LIMIT,
-        writer,
-        hand,
-        points_of(alloc)?,
-    ))
+    let rest = Rest::new(LIMIT, writer, hand, points_of(alloc)?);
+    Some(RestConnection::new(rest))
 }
 
 // Three lines that a queue held.
