@@ -3,7 +3,7 @@
 ghost use Rattle.std.specs.Prelude.{◌≤◌, length};
 
 use admin_client::{
-    AdminCommand, LONGEST_COMMAND, LONGEST_REQUEST, STOPPING, UNKNOWN_COMMAND, command_in,
+    AdminCommand, LONGEST_COMMAND, LONGEST_REQUEST, RELOADED, STOPPING, UNKNOWN_COMMAND, command_in,
 };
 use mio::net::TcpStream;
 use mio_loops::exchange::{MOST_TRIES, PATIENCE_MS, Transfer};
@@ -76,6 +76,10 @@ pub(crate) enum Answer {
     Stopping,
     /// What was sent is no command.
     UnknownCommand,
+    /// The relay runs by the new files.
+    Reloaded,
+    /// There is no memory for a reload.
+    NoMemory,
     /// The counts of each destination's queue, or what became of a reload.
     Text(Vec<u8>),
 }
@@ -86,6 +90,8 @@ impl Answer {
             Answer::Nothing => b"".as_slice(),
             Answer::Stopping => STOPPING,
             Answer::UnknownCommand => UNKNOWN_COMMAND,
+            Answer::Reloaded => RELOADED,
+            Answer::NoMemory => b"refused 4 no memory\n".as_slice(),
             Answer::Text(text) => text.as_slice(),
         }
     }

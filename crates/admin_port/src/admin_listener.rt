@@ -145,6 +145,16 @@ impl AdminListener {
         self.begin_answer(number, Answer::Text(text), millis);
     }
 
+    /// Answers the connection of this number, which has asked for a reload, that the relay runs by the new files. It takes no memory.
+    pub fn answer_reloaded(&mut self, number: u64, millis: u64) {
+        self.begin_answer(number, Answer::Reloaded, millis);
+    }
+
+    /// Answers the connection of this number, which has asked for a reload, that there is no memory for it. It takes none.
+    pub fn answer_no_memory(&mut self, number: u64, millis: u64) {
+        self.begin_answer(number, Answer::NoMemory, millis);
+    }
+
     /// Answers the connection of this number, which has asked for a reload, that the relay has no such command.
     pub fn refuse_reload(&mut self, number: u64, millis: u64) {
         self.begin_answer(number, Answer::UnknownCommand, millis);

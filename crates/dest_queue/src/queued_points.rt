@@ -57,12 +57,17 @@ impl QueuedPoints {
     }
 
     /// Adds those of a later queue behind them, the oldest first, as many as their own room has places for and at most `most` in
-    /// all; the others are dropped. Returns how many these are. It takes no memory.
+    /// all; the others are dropped. Returns how many these are. If there are none yet, the later queue takes their place, with its
+    /// room. It takes no memory.
     pub fn add(&mut self, later: QueuedPoints, most: usize) -> usize
         ensures added { (kept : ℕ) × (self.new ≡ self.old ++ take kept later)
             × (length later ≡ min kept (length later) + result) }
     {
         let QueuedPoints { mut points } = later;
+        if self.points.is_empty() {
+            self.points = points;
+            return 0;
+        }
         let most = most.min(self.points.capacity());
         for _ in 0..points.len() {
             if self.points.len() >= most {

@@ -6,16 +6,18 @@ use crate::locked::LockedQueue;
 use crate::queues::Queues;
 use crate::shares::Set;
 use crossbeam_utils::CachePadded;
-use dest_queue::{EndedQueue, QueuedPoints};
+use dest_queue::{Counts, EndedQueue, QueuedPoints};
 use std::sync::Mutex;
 
-/// What a queue leaves that has ended: the datapoints that it held, and what it counted and recorded, to be freed when there is
-/// time.
+/// What a queue leaves that has ended: what it had counted, the datapoints that it held, and what it recorded, to be freed when
+/// there is time.
 #[derive(Drop)]
 pub struct LeftQueue {
+    /// What it had counted.
+    pub counts: Counts,
     /// The datapoints, the oldest first.
     pub points: QueuedPoints,
-    /// What it counted and recorded.
+    /// What it recorded.
     pub ended: EndedQueue,
 }
 
@@ -50,6 +52,11 @@ fn left_under<B: Set>(lock: CachePadded<Mutex<LockedQueue<B>>>) -> LeftQueue {
         taken,
     } = lock.into_inner().into_inner();
     drop((offered, dropped, taken));
+    let counts = queue.counts();
     let (points, ended) = queue.into_parts();
-    LeftQueue { points, ended }
+    LeftQueue {
+        counts,
+        points,
+        ended,
+    }
 }

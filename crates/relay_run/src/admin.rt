@@ -2,18 +2,25 @@
 
 ghost use Rattle.std.specs.Prelude.{◌≡◌, length};
 
+use crate::ended_run::EndedRecord;
 use crate::first_thread::FirstThread;
+use crate::listeners::FirstPorts;
+use crate::prepared_run::{PreparedRun, prepared_by};
 use crate::relay::Relay;
-use admin_port::{AdminListener, Answers};
+use crate::reload_files::{RefusedReload, ReloadFiles};
+use crate::runtime::RelayRuntime;
+use crate::spool_folder::SpoolFolder;
+use admin_port::{AdminListener, Answers, AskedReload};
 use admin_report::report;
 use conf_text::Dest;
 use dest_queue::Counts;
+use finished_run::Recorder;
 use locked_queues::{Queues, Set};
 use mio_loops::{SystemTimes, TimeSource};
 use receivers::{ClosingWait, ReceiverControl, wake_receivers};
 use relay_base::{DestId, NoMemory, add};
 use relay_files::{RelayFault, write_out};
-use run_state::{Drain, EndState, SpoolWait, Unsent};
+use run_state::{DestSources, Drain, EndState, SpoolWait, Unsent};
 use std::alloc::Global;
 use std::io::Write;
 use std::net::Net;
@@ -36,8 +43,8 @@ const SPOOL_PAUSE_MS: u64 = 1;
 #[derive(Drop)]
 struct ReportSource<'x, B: Set> {
     queues: &'x Queues<B>,
-    dests: &'x [Dest],
-    ghost all: { length dests.now ≡ B.dests },
+    noted: DestSources<'x>,
+    ghost all: { length noted.dests.now ≡ B.dests },
 }
 
 impl<'x, B: Set> ReportSource<'x, B> {
@@ -45,16 +52,17 @@ impl<'x, B: Set> ReportSource<'x, B> {
     fn new(relay: &'x Relay<B>) -> ReportSource<'x, B> {
         ReportSource {
             queues: &relay.queues,
-            dests: relay.noted().dests,
+            noted: relay.noted(),
         }
     }
 
     /// The counts of each queue, one after the other: not at one moment.
     fn counts<R: Wait>(&self, rt: &R, alloc: Global) -> Result<Vec<(Dest, Counts)>, NoMemory> {
         let mut lines = Vec::new(alloc);
-        for place in 0..self.dests.len() {
+        for place in 0..self.noted.dests.len() {
             let counts = self.queues.counts(rt, DestId(place));
-            add(&mut lines, (self.dests[place].clone()?, counts))?;
+            let all = self.noted.counts_at(place, counts);
+            add(&mut lines, (self.noted.dests[place].clone()?, all))?;
         }
         Ok(lines)
     }
@@ -68,28 +76,147 @@ impl<'x, B: Set, R: Wait> Answers<R> for ReportSource<'x, B> {
     }
 }
 
-/// The admin port of a relay, with its listener, the controls of the receivers, and the output that says `ready`.
+/// The admin port of a relay, with the ports of the first thread, the controls of the receivers, the output that says `ready`, who
+/// reads files for a reload, the folder for what is not sent, and what is still to do for the run before, if there was one.
 #[derive(Drop)]
-pub(crate) struct AdminPort<'p, B: Set, W> {
+pub(crate) struct AdminPort<'p, B: Set, R, W, F, K> {
+    pub(crate) rt: &'p R,
     pub(crate) relay: &'p Relay<B>,
     pub(crate) controls: &'p [Arc<ReceiverControl>],
-    pub(crate) listener: &'p mut AdminListener,
+    pub(crate) ports: &'p mut FirstPorts,
     pub(crate) output: &'p mut W,
+    pub(crate) files: &'p F,
+    pub(crate) folder: Option<SpoolFolder<'p>>,
+    pub(crate) before: RunBefore,
+    pub(crate) recorder: &'p mut Option<K>,
+    // The run that is to follow, if there is one.
+    pub(crate) next: Option<PreparedRun>,
 }
 
-impl<B: Set, R: Wait + Clock + Net, W: Write> FirstThread<R> for AdminPort<'_, B, W> {
+/// What the first thread has still to do for the run before, once this one has begun: the connection that waits to be told of it,
+/// and the record.
+#[derive(Drop)]
+pub(crate) struct RunBefore {
+    pub(crate) waiting: Option<u64>,
+    pub(crate) record: Option<EndedRecord>,
+}
+
+impl RunBefore {
+    /// No run was before.
+    pub(crate) fn none() -> RunBefore {
+        RunBefore {
+            waiting: None,
+            record: None,
+        }
+    }
+}
+
+impl<'p, B: Set, R: RelayRuntime, W: Write, F: ReloadFiles, K: Recorder> AdminPort<'p, B, R, W, F, K> {
+    /// Says that the relay is ready: to the output, or, if a run was before, to the connection that has asked for this one.
+    fn say_ready(&mut self) -> Result<(), RelayFault> {
+        match self.before.waiting.take() {
+            Some(connection) => {
+                let millis = SystemTimes::since(self.rt, self.relay.began).millis();
+                self.ports.admin.answer_reloaded(connection, millis);
+                Ok(())
+            }
+            None => Ok(write_out(self.output, b"ready\n")?),
+        }
+    }
+
+    /// Ends the run before, if there was one: it is recorded, and what it held is freed.
+    fn end_before(&mut self, alloc: Global) {
+        if let Some(record) = self.before.record.take() {
+            record.finish(alloc, self.recorder);
+        }
+    }
+
+    /// Answers commands until one is `stop`, or until another run is ready to follow.
+    fn answer_until_ended(&mut self, alloc: Global) {
+        let relay = self.relay;
+        let watched = ReportSource::new(relay);
+        let times = SystemTimes::since(self.rt, relay.began);
+        for _ in self.rt.forever() {
+            let millis = times.millis();
+            let admin = &mut self.ports.admin;
+            if admin.take_turn(self.rt, alloc, &watched, millis, PAUSE_MS) {
+                return;
+            }
+            if let Some(asked) = self.ports.admin.next_reload(alloc) {
+                self.prepare(alloc, asked, millis);
+            }
+            if self.next.is_some() {
+                return;
+            }
+        }
+        unreachable!()
+    }
+
+    /// Makes ready the run that a connection has asked for, or answers why not.
+    fn prepare(&mut self, alloc: Global, asked: AskedReload, millis: u64) {
+        let AskedReload {
+            connection,
+            request,
+        } = asked;
+        let prepared = prepared_by(
+            self.rt,
+            alloc,
+            self.relay,
+            self.ports,
+            self.files,
+            self.folder,
+            request.as_slice(),
+            connection,
+        );
+        drop(request);
+        match prepared {
+            Ok(prepared) => self.next = Some(prepared),
+            Err(refused) => refuse(alloc, &mut self.ports.admin, connection, refused, millis),
+        }
+    }
+}
+
+/// Answers a connection why the relay goes on as it was.
+fn refuse(
+    alloc: Global,
+    admin: &mut AdminListener,
+    connection: u64,
+    refused: RefusedReload,
+    millis: u64,
+) {
+    let answer = refused.answer(alloc);
+    drop(refused);
+    match answer {
+        Some(answer) => admin.answer_reload(connection, answer, millis),
+        None => admin.answer_no_memory(connection, millis),
+    }
+}
+
+impl<B: Set, R: RelayRuntime, W: Write, F: ReloadFiles, K: Recorder> FirstThread<R>
+    for AdminPort<'_, B, R, W, F, K> {
     ghost written = { λ port. W.contents port.output.now };
 
     ghost which = { λ port. port.output.ghost_name };
 
-    fn serve(&mut self, rt: &R, alloc: Global) -> Result<(), RelayFault> {
-        write_out(self.output, b"ready\n")?;
-        answer_until_stopped(rt, alloc, self.listener, self.relay);
+    fn serve(&mut self, _rt: &R, alloc: Global) -> Result<(), RelayFault> {
+        self.say_ready()?;
+        self.end_before(alloc);
+        self.answer_until_ended(alloc);
+        if self.next.is_some() {
+            for streams in &self.relay.streams {
+                streams.open();
+            }
+        }
         Ok(())
     }
 
+    fn is_followed(&self) -> bool {
+        self.next.is_some()
+    }
+
     fn close_receivers(&mut self, rt: &R, alloc: Global) {
-        answer_while_closing(rt, alloc, self.listener, self.relay, self.controls);
+        self.ports.shut();
+        answer_while_closing(rt, alloc, &mut self.ports.admin, self.relay, self.controls);
     }
 
     fn wake_receivers(&self) {
@@ -99,7 +226,7 @@ impl<B: Set, R: Wait + Clock + Net, W: Write> FirstThread<R> for AdminPort<'_, B
     fn drain(&mut self, rt: &R, alloc: Global) {
         let relay = self.relay;
         if let Some(end) = relay.state.end() {
-            answer_while_draining(rt, alloc, self.listener, relay, end);
+            answer_while_draining(rt, alloc, &mut self.ports.admin, relay, end);
         }
     }
 
@@ -109,7 +236,7 @@ impl<B: Set, R: Wait + Clock + Net, W: Write> FirstThread<R> for AdminPort<'_, B
             if end.is_spooled() {
                 relay.state.signals().begin_spooling();
                 relay.gate.wake_all();
-                answer_while_spooling(rt, alloc, self.listener, relay, end);
+                answer_while_spooling(rt, alloc, &mut self.ports.admin, relay, end);
             }
         }
     }
@@ -121,29 +248,10 @@ impl<B: Set, R: Wait + Clock + Net, W: Write> FirstThread<R> for AdminPort<'_, B
 
 /// What remains to be sent by a relay with this end.
 fn unsent_of<'x, B: Set>(relay: &'x Relay<B>, end: &'x EndState) -> Unsent<'x, B> {
-    Unsent::new(&relay.queues, relay.shape.dests, relay.noted().notes, end)
+    Unsent::new(&relay.queues, relay.noted(), end)
 }
 
-/// Answers commands until one is `stop`.
-fn answer_until_stopped<R: Wait + Clock + Net, B: Set>(
-    rt: &R,
-    alloc: Global,
-    listener: &mut AdminListener,
-    relay: &Relay<B>,
-) {
-    let watched = ReportSource::new(relay);
-    let times = SystemTimes::new(rt);
-    for _ in rt.forever() {
-        let millis = times.millis();
-        if listener.take_turn(rt, alloc, &watched, millis, PAUSE_MS) {
-            return;
-        }
-        refuse_reload(alloc, listener, millis);
-    }
-    unreachable!()
-}
-
-/// Refuses a reload, if a connection has asked for one: no run takes a new configuration yet.
+/// Refuses a reload, if a connection has asked for one: a relay that stops takes no new configuration.
 fn refuse_reload(alloc: Global, listener: &mut AdminListener, millis: u64) {
     if let Some(asked) = listener.next_reload(alloc) {
         listener.refuse_reload(asked.connection, millis);
@@ -160,7 +268,7 @@ fn answer_while_closing<R: Wait + Clock + Net, B: Set>(
     controls: &[Arc<ReceiverControl>],
 ) {
     let watched = ReportSource::new(relay);
-    let times = SystemTimes::new(rt);
+    let times = SystemTimes::since(rt, relay.began);
     let mut closing = ClosingWait::begin(controls, times.millis());
     for _ in rt.forever() {
         let millis = times.millis();
@@ -184,11 +292,12 @@ fn answer_while_draining<R: Wait + Clock + Net, B: Set>(
     let watched = ReportSource::new(relay);
     let unsent = unsent_of(relay, end);
     let signals = relay.state.signals();
-    let times = SystemTimes::new(rt);
+    let times = SystemTimes::since(rt, relay.began);
     let mut drain = Drain::new(times.millis(), end.drain_seconds());
     for _ in rt.forever() {
         let millis = times.millis();
-        if drain.look(rt, &unsent, signals, millis) {
+        let is_over = drain.look(rt, &unsent, signals, millis);
+        if is_over && !relay.gone.are_sent_to(millis) {
             return;
         }
         let _is_stopped = listener.take_turn(rt, alloc, &watched, millis, DRAIN_PAUSE_MS);
@@ -207,7 +316,7 @@ fn answer_while_spooling<R: Wait + Clock + Net, B: Set>(
 ) {
     let watched = ReportSource::new(relay);
     let unsent = unsent_of(relay, end);
-    let times = SystemTimes::new(rt);
+    let times = SystemTimes::since(rt, relay.began);
     let mut wait = SpoolWait::new(times.millis());
     for _ in rt.forever() {
         let millis = times.millis();

@@ -1,4 +1,6 @@
 //! How a run ends once the first thread has served: the receivers, then the senders, at last those that watch.
+//!
+//! If another run follows, nothing is closed and nothing is waited for: what the threads hold goes on there.
 
 ghost use Rattle.std.specs.Prelude.{◌≡◌, ◌⊎◌, Err, if◌then◌else◌};
 
@@ -9,31 +11,34 @@ use finished_run::FedLog;
 use locked_queues::{DoorRecord, OutletRecord};
 use mio_loops::WriteLog;
 use relay_files::RelayFault;
+use relay_watchers::{LogEnd, StatusServer};
 use run_state::Signals;
 use std::alloc::Global;
 use std::rt::Clock;
 use std::sync::Wait;
 use std::thread::{JoinHandle, Threads};
 
-/// How the threads ended, the receivers and the senders in order, and whether the run went on until it was
-/// stopped.
+/// How the threads ended, the receivers and the senders in order, what the log and the status server left, and whether the run
+/// went on until it was stopped.
 #[derive(Drop)]
-pub(crate) struct ThreadEnds {
+pub(crate) struct ThreadEnds<O> {
     pub(crate) receivers: Vec<ThreadEnd<DoorRecord, FedLog>>,
     pub(crate) senders: Vec<ThreadEnd<OutletRecord, Vec<WriteLog>>>,
+    pub(crate) log: Option<LogEnd<O>>,
+    pub(crate) server: Option<StatusServer>,
     pub(crate) served: Result<(), RelayFault>,
 }
 
 /// Ends the threads, once the first has served in this way: the receivers, then the senders, and at last those that watch
 /// them. What receivers and senders left is kept, or memory ran out.
-pub(crate) fn end_threads<R: Threads + Wait + Clock, M: FirstThread<R>>(
+pub(crate) fn end_threads<R: Threads + Wait + Clock, O: Send + Drop, M: FirstThread<R>>(
     rt: &R,
     alloc: Global,
     signals: &Signals,
-    started: StartedThreads,
+    started: StartedThreads<O>,
     served: Result<(), RelayFault>,
     first: &mut M,
-) -> ThreadEnds
+) -> ThreadEnds<O>
     ensures same { M.which first.new ≡ M.which first.old }
     ensures nothing { M.written first.new ≡ M.written first.old }
     ensures served { (result.served ≡ served) ⊎ (result.served ≡ Err RelayFault.NoMemory) }
@@ -41,29 +46,51 @@ pub(crate) fn end_threads<R: Threads + Wait + Clock, M: FirstThread<R>>(
     let StartedThreads {
         receivers,
         senders,
-        watchers,
+        parting,
+        logs,
+        servers,
         ..
     } = started;
-    close_if(rt, alloc, served.is_ok(), first);
+    let is_last = served.is_ok() && !first.is_followed();
+    if first.is_followed() {
+        signals.begin_handing();
+    }
+    close_if(rt, alloc, is_last, first);
     signals.stop_receivers();
     first.wake_receivers();
     let (receivers, are_kept) = join_all(rt, alloc, receivers);
     let served = served_if(are_kept, served);
-    send_rest_if(rt, alloc, served.is_ok(), first);
+    send_rest_if(rt, alloc, is_last && served.is_ok(), first);
     signals.stop_senders();
     first.wake_senders();
     let (senders, are_kept) = join_all(rt, alloc, senders);
     let served = served_if(are_kept, served);
+    let _ends = join_all(rt, alloc, parting);
     signals.stop_watchers();
-    let _ends = join_all(rt, alloc, watchers);
+    let log = join_last(rt, logs);
+    let server = join_last(rt, servers);
     ThreadEnds {
         receivers,
         senders,
+        log,
+        server,
         served,
     }
 }
 
-/// Closes the receivers if the run went on until it was stopped.
+/// Joins the thread of a list that has one at most. Returns how it ended.
+fn join_last<R: Threads + Wait, T: Send + Drop>(
+    rt: &R,
+    children: Vec<JoinHandle<T>>,
+) -> Option<T> {
+    let mut end = None;
+    for child in children {
+        end = Some(child.join(rt));
+    }
+    end
+}
+
+/// Closes the receivers if the run went on until it was stopped, and none follows.
 fn close_if<R: Wait + Clock, M: FirstThread<R>>(
     rt: &R,
     alloc: Global,
@@ -78,7 +105,7 @@ fn close_if<R: Wait + Clock, M: FirstThread<R>>(
     }
 }
 
-/// If the run went on until it was stopped, lets the senders send what is left, and write to files what is left then.
+/// If the run went on until it was stopped, and none follows, lets the senders send what is left, and write to files what is left then.
 fn send_rest_if<R: Wait + Clock, M: FirstThread<R>>(
     rt: &R,
     alloc: Global,

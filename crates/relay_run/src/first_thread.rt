@@ -19,12 +19,16 @@ pub(crate) trait FirstThread<R: Wait + Clock> {
 
     ghost which: { Self → ℕ };
 
-    /// Says that the relay is ready, and answers commands until one is `stop`.
+    /// Says that the relay is ready, if no run was before, and answers commands until one is `stop`, or until another run is to
+    /// follow.
     fn serve(&mut self, rt: &R, alloc: Global) -> Result<(), RelayFault>
         ensures same { which self.new ≡ which self.old }
         ensures ok { OnOk result (Appends (written self.old) (written self.new) ready_line) }
         ensures err { IfErr result (λ fault. (fault ≡ RelayFault.Output)
             × GrowsByPart (written self.old) (written self.new) ready_line) };
+
+    /// Whether another run follows this one, now that it has served.
+    fn is_followed(&self) -> bool;
 
     /// Closes the receivers before they are stopped, so that they read what was sent to them.
     fn close_receivers(&mut self, rt: &R, alloc: Global)

@@ -1,71 +1,69 @@
-//! Connections behind what an ended run left.
+//! Connections behind what ended runs left.
 
 ghost use Rattle.std.specs.Prelude.{◌≡◌, ◌≤◌, IfErr};
 
-use conf_text::MOST_DESTINATIONS;
+use crate::dest_slots::DestSlots;
+use dest_queue::QueuedPoints;
 use dest_writer::GatherBuf;
-use handover::{RestConnection, RestTurn};
+use handover::{Rest, RestConnection, RestTurn};
 use mio_loops::{LeftWriter, ReadinessFault};
-use relay_base::{DestId, NoMemory};
-use senders::Connect;
+use relay_base::{DestId, MOST_DESTINATIONS, NoMemory, add};
+use run_state::{RestNotes, Signals};
+use senders::{Connect, KeptSocket};
 use std::alloc::Global;
+use std::io::Write;
 
-/// What an ended run left for a sender's destinations: by destination, a rest, if there is one, until all of it is sent.
+/// What ended runs left for a sender's destinations: by destination, a rest, if there is one, until all of it is sent.
 #[derive(Drop)]
-pub(crate) struct SenderRests<W> {
+pub(crate) struct SenderRests<'n, W> {
     dests: Vec<Option<RestConnection<W>>>,
-    gathered: GatherBuf,
+    // None if there was never a rest.
+    gathered: Option<GatherBuf>,
+    notes: &'n [RestNotes],
 }
 
-impl<W> SenderRests<W> {
-    /// These rests, by destination. Refuses if out of memory.
+impl<'n, W: Drop> SenderRests<'n, W> {
+    /// No run has ended. It takes no memory.
+    pub(crate) fn none(alloc: Global, notes: &'n [RestNotes]) -> SenderRests<'n, W> {
+        SenderRests {
+            dests: Vec::new(alloc),
+            gathered: None,
+            notes,
+        }
+    }
+
+    /// Places for the rests of so many destinations; where it is noted how much of each is left. Refuses if out of memory.
     pub(crate) fn new(
         alloc: Global,
-        dests: Vec<Option<RestConnection<W>>>,
-    ) -> Result<SenderRests<W>, NoMemory> {
+        dests: usize,
+        notes: &'n [RestNotes],
+    ) -> Result<SenderRests<'n, W>, NoMemory> {
+        let mut none = Vec::new(alloc);
+        for _ in 0..dests {
+            add(&mut none, None)?;
+        }
         Ok(SenderRests {
-            dests,
-            gathered: GatherBuf::new(alloc)?,
+            dests: none,
+            gathered: Some(GatherBuf::new(alloc)?),
+            notes,
         })
     }
-}
 
-/// Connects through another connector. While a rest is left for a destination, it keeps the connection for itself and sends the
-/// rest, so that the destination is not connected for others before. Without rests it connects as the other connector does.
-#[derive(Drop)]
-pub(crate) struct RestConnector<N: Connect> {
-    connector: N,
-    rests: SenderRests<N::Sink>,
-    ready: [DestId; MOST_DESTINATIONS],
-}
-
-impl<N: Connect> RestConnector<N> {
-    /// Connects through `connector`, behind these rests.
-    pub(crate) fn new(connector: N, rests: SenderRests<N::Sink>) -> RestConnector<N> {
-        RestConnector {
-            connector,
-            rests,
-            ready: [DestId(0); MOST_DESTINATIONS],
+    /// From now on this rest of a destination is to be sent: the connection that its writer had goes on, if it is there.
+    pub(crate) fn begin(&mut self, place: usize, rest: Rest, sink: Option<W>) {
+        let mut rest = rest;
+        if sink.is_none() {
+            rest.lose();
+        }
+        let mut connection = RestConnection::new(rest);
+        if let Some(sink) = sink {
+            connection.go_on(sink);
+        }
+        if let Some(slot) = self.dests.get_mut(place) {
+            *slot = Some(connection);
         }
     }
 
-    /// Waits; not at all if a rest goes on at once. Connections that have closed take no more of their rests.
-    fn wait_beside_rests(&mut self, millis: u64) -> Result<&[DestId], ReadinessFault>
-        ensures device { IfErr result (λ fault. fault ≡ ReadinessFault.Device) }
-    {
-        let pause = if self.rests.goes_on() { 0 } else { millis };
-        let count = copy_list(self.connector.wait(pause)?, &mut self.ready);
-        self.rests.note_ready(&self.ready[..count]);
-        for place in 0..self.rests.dests.len() {
-            if self.connector.has_closed(DestId(place)) {
-                self.rests.lose(place);
-            }
-        }
-        Ok(&self.ready[..count])
-    }
-}
-
-impl<W> SenderRests<W> {
     /// Whether nothing is left for any destination.
     fn are_over(&self) -> bool {
         self.dests.iter().all(|rest| rest.is_none())
@@ -75,9 +73,7 @@ impl<W> SenderRests<W> {
     fn has_rest(&self, place: usize) -> bool {
         matches!(self.dests.get(place), Some(Some(_)))
     }
-}
 
-impl<W: std::io::Write + Drop> SenderRests<W> {
     /// Whether a rest goes on at once.
     fn goes_on(&self) -> bool {
         for rest in &self.dests {
@@ -117,12 +113,20 @@ impl<W: std::io::Write + Drop> SenderRests<W> {
     }
 
     /// The rest of a destination has this connection, which is another than its writer had.
-    fn begin(&mut self, place: usize, sink: W) {
+    fn begin_connection(&mut self, place: usize, sink: W) {
         if let Some(Some(rest)) = self.dests.get_mut(place) {
             rest.begin(sink);
         }
     }
 
+    /// Takes the rest of a destination, and its connection, if there is one.
+    fn take(&mut self, place: usize) -> Option<(Rest, Option<W>)> {
+        let connection = self.dests.get_mut(place)?.take()?;
+        Some(connection.into_parts())
+    }
+}
+
+impl<W: Write + Drop> SenderRests<'_, W> {
     /// Sends some of the rest of a destination, and returns the connection once all is sent.
     fn send(&mut self, place: usize) -> Option<W> {
         let Some(slot) = self.dests.get_mut(place) else {
@@ -131,13 +135,91 @@ impl<W: std::io::Write + Drop> SenderRests<W> {
         let Some(rest) = slot else {
             return None;
         };
-        match rest.send(&mut self.gathered) {
+        let Some(gathered) = &mut self.gathered else {
+            return None;
+        };
+        let turn = rest.send(gathered);
+        if let Some(notes) = self.notes.get(place) {
+            notes.note(rest.rest().queued(), rest.rest().in_hand());
+        }
+        match turn {
             RestTurn::Over(sink) => {
                 *slot = None;
                 Some(sink)
             }
             RestTurn::Lost | RestTurn::Kept => None,
         }
+    }
+}
+
+/// Connects through another connector. While a rest is left for a destination, it keeps the connection for itself and sends the
+/// rest, so that the destination is not connected for others before. Without rests it connects as the other connector does.
+///
+/// When the sender ends, what is still left goes to the slots; and if another run follows, so does what the sender had in hand,
+/// with its connection.
+#[derive(Drop)]
+pub(crate) struct RestConnector<'n, N: Connect> {
+    connector: N,
+    rests: SenderRests<'n, N::Sink>,
+    slots: &'n DestSlots,
+    signals: &'n Signals,
+    // Which of this many senders it is for: one of `n` has each n-th destination.
+    sender: usize,
+    senders: usize,
+    alloc: Global,
+    ready: [DestId; MOST_DESTINATIONS],
+}
+
+impl<'n, N: Connect> RestConnector<'n, N> {
+    /// Connects through `connector`, behind these rests, for one of this many senders.
+    pub(crate) fn new(
+        alloc: Global,
+        connector: N,
+        rests: SenderRests<'n, N::Sink>,
+        slots: &'n DestSlots,
+        signals: &'n Signals,
+        sender: usize,
+        senders: usize,
+    ) -> RestConnector<'n, N> {
+        RestConnector {
+            connector,
+            rests,
+            slots,
+            signals,
+            sender,
+            senders,
+            alloc,
+            ready: [DestId(0); MOST_DESTINATIONS],
+        }
+    }
+
+    /// Waits; not at all if a rest goes on at once. Connections that have closed take no more of their rests.
+    fn wait_beside_rests(&mut self, millis: u64) -> Result<&[DestId], ReadinessFault>
+        ensures device { IfErr result (λ fault. fault ≡ ReadinessFault.Device) }
+    {
+        let pause = if self.rests.goes_on() { 0 } else { millis };
+        let count = copy_list(self.connector.wait(pause)?, &mut self.ready);
+        self.rests.note_ready(&self.ready[..count]);
+        for place in 0..self.rests.dests.len() {
+            if self.connector.has_closed(DestId(place)) {
+                self.rests.lose(place);
+            }
+        }
+        Ok(&self.ready[..count])
+    }
+
+    /// Leaves the rest of a destination in its slot, with the socket of its connection if another run follows.
+    fn leave(&mut self, place: usize) {
+        let Some((rest, sink)) = self.rests.take(place) else {
+            return;
+        };
+        let socket = match sink {
+            Some(sink) if self.signals.is_handing() => {
+                self.connector.take_back(DestId(place), sink)
+            }
+            _ => None,
+        };
+        self.slots.leave_rest(place, rest, socket);
     }
 }
 
@@ -150,7 +232,7 @@ fn copy_list(list: &[DestId], copy: &mut [DestId; MOST_DESTINATIONS]) -> usize
     count
 }
 
-impl<N: Connect + Drop> Connect for RestConnector<N> {
+impl<'n, N: Connect + Drop> Connect for RestConnector<'n, N> {
     type Sink = N::Sink;
 
     fn wait(&mut self, millis: u64) -> Result<&[DestId], ReadinessFault> {
@@ -170,7 +252,7 @@ impl<N: Connect + Drop> Connect for RestConnector<N> {
         }
         if !self.rests.is_open(dest.0) {
             let sink = self.connector.connect(dest, millis)?;
-            self.rests.begin(dest.0, sink);
+            self.rests.begin_connection(dest.0, sink);
         }
         self.rests.send(dest.0)
     }
@@ -180,11 +262,39 @@ impl<N: Connect + Drop> Connect for RestConnector<N> {
     }
 
     fn hands_over(&self) -> bool {
-        self.connector.hands_over()
+        self.signals.is_handing()
     }
 
+    /// What the sender had in hand is the beginning of the destination's rest, if the run is followed by another, and the
+    /// destination is this sender's and had no rest.
     fn hand_over(&mut self, dest: DestId, left: LeftWriter<N::Sink>) {
-        self.connector.hand_over(dest, left);
+        let is_own = dest.0.checked_rem(self.senders) == Some(self.sender);
+        if !is_own || !self.signals.is_handing() || self.rests.has_rest(dest.0) {
+            return;
+        }
+        let LeftWriter {
+            limit,
+            writer,
+            lent,
+            sink,
+        } = left;
+        let socket = match sink {
+            Some(sink) => self.connector.take_back(dest, sink),
+            None => None,
+        };
+        let rest = Rest::new(limit, writer, lent, QueuedPoints::none(self.alloc));
+        self.slots.leave_rest(dest.0, rest, socket);
+    }
+
+    fn take_back(&mut self, dest: DestId, sink: N::Sink) -> Option<KeptSocket> {
+        self.connector.take_back(dest, sink)
+    }
+
+    fn end(&mut self) {
+        for place in 0..self.rests.dests.len() {
+            self.leave(place);
+        }
+        self.connector.end();
     }
 
     fn end_writes(&mut self) {

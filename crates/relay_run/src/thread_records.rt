@@ -9,6 +9,7 @@ use finished_run::ThreadLogs;
 use locked_queues::{DoorRecord, OutletRecord};
 use relay_base::{NoMemory, add};
 use relay_files::RelayFault;
+use relay_watchers::{LogEnd, StatusServer};
 use std::alloc::Global;
 
 /// What doors and outlets recorded, what receivers and senders logged, and the fault of a thread, if one had a fault.
@@ -20,13 +21,21 @@ pub(crate) struct Records {
     pub(crate) fault: Option<RelayFault>,
 }
 
+/// What the threads of a run left: what they recorded, the log, if there is one, and the status server.
+#[derive(Drop)]
+pub(crate) struct RunLeft<O> {
+    pub(crate) records: Records,
+    pub(crate) log: Option<LogEnd<O>>,
+    pub(crate) server: Option<StatusServer>,
+}
+
 /// What the threads recorded, with the records of unused seats, and the first fault of a thread.
-pub(crate) fn records_of(
+pub(crate) fn records_of<O: Drop>(
     alloc: Global,
     unused: Vec<DoorRecord>,
-    ends: ThreadEnds,
-) -> Result<Records, RelayFault>
-    ensures fault { IfOk result (λ records. records.fault
+    ends: ThreadEnds<O>,
+) -> Result<RunLeft<O>, RelayFault>
+    ensures fault { IfOk result (λ left. left.records.fault
         ≡ thread_fault (map (λ end. end.fault) ends.receivers.items)
         (map (λ end. end.fault) ends.senders.items)) }
     ensures served { OnOk result (IsOk ends.served) }
@@ -35,6 +44,8 @@ pub(crate) fn records_of(
     let ThreadEnds {
         receivers,
         senders,
+        log,
+        server,
         served,
     } = ends;
     served?;
@@ -45,11 +56,16 @@ pub(crate) fn records_of(
     let mut outlets = Vec::new(alloc);
     let mut written = Vec::new(alloc);
     add_records(&mut outlets, &mut written, senders)?;
-    Ok(Records {
+    let records = Records {
         doors,
         outlets,
         logs: ThreadLogs { fed, written },
         fault,
+    };
+    Ok(RunLeft {
+        records,
+        log,
+        server,
     })
 }
 

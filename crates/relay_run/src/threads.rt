@@ -10,6 +10,7 @@ use crate::thread_end::ThreadEnd;
 use finished_run::FedLog;
 use locked_queues::{DoorRecord, OutletRecord};
 use mio_loops::WriteLog;
+use relay_watchers::{LogEnd, StatusServer};
 use run_state::{Signals, ThreadWork};
 use std::alloc::Global;
 use std::rt::Clock;
@@ -17,12 +18,13 @@ use std::sync::Wait;
 use std::thread;
 use std::thread::{Builder, JoinHandle, Scope, Threads};
 
-/// The work of a relay's threads: those of its receivers and its senders, and those of the log and of the
-/// status server, if any.
+/// The work of a relay's threads: those of its receivers and its senders, that of the sender to destinations that are gone, and
+/// those of the log and of the status server, if any.
 #[derive(Drop)]
-pub(crate) struct Jobs<J, K, L, V> {
+pub(crate) struct Jobs<J, K, G, L, V> {
     pub(crate) receiving: Vec<J>,
     pub(crate) sending: Vec<K>,
+    pub(crate) parting: Option<G>,
     pub(crate) logging: Option<L>,
     pub(crate) status: Option<V>,
 }
@@ -35,14 +37,16 @@ struct SignalLink<'s> {
 
 /// The handles of threads that were started, and whether all were.
 #[derive(Drop)]
-pub(crate) struct StartedThreads {
+pub(crate) struct StartedThreads<O> {
     pub(crate) receivers: Vec<JoinHandle<ThreadEnd<DoorRecord, FedLog>>>,
     pub(crate) senders: Vec<JoinHandle<ThreadEnd<OutletRecord, Vec<WriteLog>>>>,
-    pub(crate) watchers: Vec<JoinHandle<()>>,
+    pub(crate) parting: Vec<JoinHandle<()>>,
+    pub(crate) logs: Vec<JoinHandle<LogEnd<O>>>,
+    pub(crate) servers: Vec<JoinHandle<StatusServer>>,
     are_all: bool,
 }
 
-impl StartedThreads {
+impl<O> StartedThreads<O> {
     /// Waits until all receivers and senders have begun. Returns whether they have: false if a thread could not be started, or
     /// has not the memory to begin.
     fn wait_for_begun<R: Wait + Clock>(&self, rt: &R, signals: &Signals) -> bool {
@@ -56,10 +60,18 @@ pub(crate) fn run_threads<
     R: Threads + Wait + Clock + Sync,
     J: ThreadWork<R, ThreadEnd<DoorRecord, FedLog>> + Send + Drop,
     K: ThreadWork<R, ThreadEnd<OutletRecord, Vec<WriteLog>>> + Send + Drop,
-    L: ThreadWork<R, ()> + Send + Drop,
-    V: ThreadWork<R, ()> + Send + Drop,
+    G: ThreadWork<R, ()> + Send + Drop,
+    L: ThreadWork<R, LogEnd<O>> + Send + Drop,
+    V: ThreadWork<R, StatusServer> + Send + Drop,
+    O: Send + Drop,
     M: FirstThread<R> + Drop,
->(rt: &R, alloc: Global, jobs: Jobs<J, K, L, V>, signals: &Signals, first: M) -> (ThreadEnds, M)
+>(
+    rt: &R,
+    alloc: Global,
+    jobs: Jobs<J, K, G, L, V>,
+    signals: &Signals,
+    first: M,
+) -> (ThreadEnds<O>, M)
     ensures same { M.which result.1 ≡ M.which first }
     ensures served { Served (M.written first) (M.written result.1) result.0.served }
 {
@@ -67,8 +79,9 @@ pub(crate) fn run_threads<
     thread::scope(
         thread::scope_env(),
         rt,
-        move |scope| -> (ThreadEnds, M)
-            requires { IsSync R.row × IsSend J.row × IsSend K.row × IsSend L.row × IsSend V.row }
+        move |scope| -> (ThreadEnds<O>, M)
+            requires { IsSync R.row × IsSend J.row × IsSend K.row × IsSend G.row × IsSend L.row
+                × IsSend V.row × IsSend O.row }
             ensures same { M.which result.1 ≡ M.which first }
             ensures served { Served (M.written first) (M.written result.1) result.0.served }
         {
@@ -86,17 +99,19 @@ fn run_in_scope<
     R: Threads + Wait + Clock + Sync,
     J: ThreadWork<R, ThreadEnd<DoorRecord, FedLog>> + Send + Drop + 's,
     K: ThreadWork<R, ThreadEnd<OutletRecord, Vec<WriteLog>>> + Send + Drop + 's,
-    L: ThreadWork<R, ()> + Send + Drop + 's,
-    V: ThreadWork<R, ()> + Send + Drop + 's,
+    G: ThreadWork<R, ()> + Send + Drop + 's,
+    L: ThreadWork<R, LogEnd<O>> + Send + Drop + 's,
+    V: ThreadWork<R, StatusServer> + Send + Drop + 's,
+    O: Send + Drop + 's,
     M: FirstThread<R>,
 >(
     scope: &Scope<'s, E>,
     rt: &'s R,
     alloc: Global,
-    jobs: Jobs<J, K, L, V>,
+    jobs: Jobs<J, K, G, L, V>,
     link: SignalLink<'s>,
     first: &mut M,
-) -> ThreadEnds
+) -> ThreadEnds<O>
     ensures same { M.which first.new ≡ M.which first.old }
     ensures served { Served (M.written first.old) (M.written first.new) result.served }
 {
@@ -113,31 +128,36 @@ fn start_all<
     R: Threads + Wait + Clock + Sync,
     J: ThreadWork<R, ThreadEnd<DoorRecord, FedLog>> + Send + Drop + 's,
     K: ThreadWork<R, ThreadEnd<OutletRecord, Vec<WriteLog>>> + Send + Drop + 's,
-    L: ThreadWork<R, ()> + Send + Drop + 's,
-    V: ThreadWork<R, ()> + Send + Drop + 's,
+    G: ThreadWork<R, ()> + Send + Drop + 's,
+    L: ThreadWork<R, LogEnd<O>> + Send + Drop + 's,
+    V: ThreadWork<R, StatusServer> + Send + Drop + 's,
+    O: Send + Drop + 's,
 >(
     scope: &Scope<'s, E>,
     rt: &'s R,
     alloc: Global,
-    jobs: Jobs<J, K, L, V>,
+    jobs: Jobs<J, K, G, L, V>,
     link: SignalLink<'s>,
-) -> StartedThreads {
+) -> StartedThreads<O> {
     let Jobs {
         receiving,
         sending,
+        parting,
         logging,
         status,
     } = jobs;
     let (receivers, are_receivers) = start_each(scope, rt, alloc, receiving, link);
     let (senders, are_senders) = start_each(scope, rt, alloc, sending, link);
-    let mut watchers = Vec::new(alloc);
-    let is_logging = start_if(scope, rt, alloc, logging, link, &mut watchers);
-    let is_status = start_if(scope, rt, alloc, status, link, &mut watchers);
+    let (parting, is_parting) = start_if(scope, rt, alloc, parting, link);
+    let (logs, is_logging) = start_if(scope, rt, alloc, logging, link);
+    let (servers, is_status) = start_if(scope, rt, alloc, status, link);
     StartedThreads {
         receivers,
         senders,
-        watchers,
-        are_all: are_receivers && are_senders && is_logging && is_status,
+        parting,
+        logs,
+        servers,
+        are_all: are_receivers && are_senders && is_parting && is_logging && is_status,
     }
 }
 
@@ -163,19 +183,26 @@ fn start_each<
     (handles, are_all)
 }
 
-/// Starts the thread of a job, if there is one. Returns whether it has started and kept it.
-fn start_if<'s, E, R: Threads + Wait + Clock + Sync, J: ThreadWork<R, ()> + Send + Drop + 's>(
+/// Starts the thread of a job, if there is one. Returns its handle, and whether it has started and kept it.
+fn start_if<
+    's,
+    E,
+    R: Threads + Wait + Clock + Sync,
+    T: Send + Drop + 's,
+    J: ThreadWork<R, T> + Send + Drop + 's,
+>(
     scope: &Scope<'s, E>,
     rt: &'s R,
     alloc: Global,
     job: Option<J>,
     link: SignalLink<'s>,
-    handles: &mut Vec<JoinHandle<()>>,
-) -> bool {
-    match job {
-        Some(job) => start_thread(scope, rt, alloc, job, link, handles),
+) -> (Vec<JoinHandle<T>>, bool) {
+    let mut handles = Vec::new(alloc);
+    let is_started = match job {
+        Some(job) => start_thread(scope, rt, alloc, job, link, &mut handles),
         None => true,
-    }
+    };
+    (handles, is_started)
 }
 
 /// Starts the thread of a job, and keeps its handle. Returns whether it could.

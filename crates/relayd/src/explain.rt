@@ -190,7 +190,7 @@ impl<'p> RereadFile<'p> {
         }
     }
 
-    fn of_given(
+    pub fn of_given(
         rt: &HostRuntime,
         alloc: Global,
         path: &'p Option<String>,

@@ -15,6 +15,7 @@ mod files;
 mod log_output;
 mod memory_there;
 mod record_file;
+mod reload_files;
 mod spool_folder;
 mod system_faults;
 mod words;
@@ -26,6 +27,7 @@ use line_text::Moment;
 use log_output::log_output;
 use pass_lines::pass;
 use record_file::recorder_of;
+use reload_files::RelayFiles;
 use relay_commands::{HandedForm, check, replay, replay_lines, route, route_names};
 use relay_files::{RelayFault, Status};
 use relay_run::{RunOptions, StatusOptions, SystemTables};
@@ -146,6 +148,7 @@ where
                 log_output(rt, *threads, options.has_log),
                 recorder,
                 folder,
+                &RelayFiles::new(rt, paths),
             )?;
             Ok(match status {
                 Status::Done => recorded,

@@ -18,6 +18,8 @@ pub struct Signals {
     spooling: AtomicBool,
     senders: AtomicBool,
     watchers: AtomicBool,
+    // What the threads hold goes on in another run.
+    handing: AtomicBool,
     // How many of these stops were told: a thread that sleeps wakes when that changes.
     stops: AtomicU64,
     // The destinations that a drain gave up, a bit each.
@@ -37,6 +39,7 @@ impl Signals {
             spooling: AtomicBool::new(false),
             senders: AtomicBool::new(false),
             watchers: AtomicBool::new(false),
+            handing: AtomicBool::new(false),
             stops: AtomicU64::new(0),
             stuck: AtomicU64::new(0),
             slow: AtomicU64::new(0),
@@ -59,6 +62,16 @@ impl Signals {
     /// The stop flag of the threads that watch receivers and senders. It is set when all of these have ended.
     pub fn watchers(&self) -> &AtomicBool {
         &self.watchers
+    }
+
+    /// From now on what the threads hold goes on in the next run: nothing is closed, and nothing ends but this run.
+    pub fn begin_handing(&self) {
+        self.handing.store(true, Ordering::SeqCst);
+    }
+
+    /// Whether what the threads hold goes on in the next run.
+    pub fn is_handing(&self) -> bool {
+        self.handing.load(Ordering::SeqCst)
     }
 
     /// Tells the receivers to stop.
@@ -117,9 +130,9 @@ impl Signals {
         (stuck, self.slow.load(Ordering::SeqCst))
     }
 
-    /// Whether the receivers are to stop, or have stopped: then the relay is about to end.
-    pub fn receivers_stop(&self) -> bool {
-        self.receivers.load(Ordering::SeqCst)
+    /// Whether the relay is about to end: the receivers are to stop, or have stopped, and no run follows.
+    pub fn is_relay_ending(&self) -> bool {
+        self.receivers.load(Ordering::SeqCst) && !self.is_handing()
     }
 
     /// Whether the senders give up their connections: they write to files, or are to stop, or have stopped.
@@ -208,9 +221,9 @@ impl<'s> BeginNote<'s> {
         }
     }
 
-    /// Whether the receivers are to stop, or have stopped.
+    /// Whether the receivers are to stop, or have stopped, and no run follows.
     pub fn is_receiving_over(&self) -> bool {
-        self.signals.receivers.load(Ordering::SeqCst)
+        self.signals.is_relay_ending()
     }
 
     /// It waits: if for the first time, it has begun.

@@ -107,8 +107,17 @@ impl<'g, R: Net + Drop, L: Lookup + Drop> StoreConnector<'g, R, L> {
     }
 
     /// Takes over the connection of a destination from another sender: it goes on here. `None` if the system does not watch it, or
-    /// the destination is not of this sender; the connection is lost then.
-    pub fn keep(&mut self, dest: DestId, kept: KeptSocket) -> Option<StoreStream<'g>> {
+    /// the destination is not of this sender; the connection is lost then. It counts as made at these milliseconds if nothing was
+    /// noted of the destination before.
+    pub fn keep(
+        &mut self,
+        dest: DestId,
+        kept: KeptSocket,
+        millis: u64,
+    ) -> Option<StoreStream<'g>> {
+        if let Some(notes) = self.notes.get(dest.0) {
+            notes.note_kept(millis);
+        }
         let wire = self.watch(dest, kept.socket);
         match wire {
             Some(wire) => Some(StoreStream::resumed(wire, kept.begun, self.notes.get(dest.0))),

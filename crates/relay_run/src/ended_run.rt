@@ -1,0 +1,179 @@
+//! What a run leaves that another one follows.
+
+ghost use Rattle.std.specs.Prelude.{◌≤◌};
+
+use crate::end_room::EndRoom;
+use crate::gone_dests::GoneDests;
+use crate::left_dest::LeftDest;
+use crate::relay::Relay;
+use crate::shape::Shape;
+use dest_queue::{EndedQueue, Hand, QueuedPoints};
+use dest_writer::Writer;
+use finished_run::{FinishedRun, Recorder, RunPlace, RunShape, ThreadLogs};
+use handover::Rest;
+use locked_queues::{LeftQueue, Set, SettleFault, Settled};
+use receivers::HandedStreams;
+use relay_base::{LARGEST_MESSAGE, NoMemory};
+use relay_files::{RelayFault, RunConfiguration};
+use run_state::RunNotes;
+use std::alloc::Global;
+use std::sync::Arc;
+
+/// What a run leaves that another one follows: what its record is made of, and, by its own places, what was noted, what is left for
+/// each destination, and the connections of each receiver.
+#[derive(Drop)]
+pub(crate) struct EndedRun {
+    pub(crate) record: EndedRecord,
+    pub(crate) notes: RunNotes,
+    pub(crate) lefts: Vec<LeftDest>,
+    pub(crate) gone: GoneDests,
+    pub(crate) streams: Vec<Arc<HandedStreams>>,
+}
+
+/// What the record of a run is made of: its number, its configuration and its numbers, how it settled, what its threads logged, and
+/// the fault of one, if one had a fault; and what its queues recorded, which is freed with it.
+#[derive(Drop)]
+pub(crate) struct EndedRecord {
+    pub(crate) number: u64,
+    pub(crate) configuration: RunConfiguration,
+    pub(crate) shape: RunShape,
+    pub(crate) settled: Result<Settled, SettleFault>,
+    pub(crate) logs: ThreadLogs,
+    pub(crate) fault: Option<RelayFault>,
+    pub(crate) queues: Vec<EndedQueue>,
+}
+
+impl EndedRecord {
+    /// Gives the recorder, if there is one, what the run left, and frees that.
+    pub(crate) fn finish<K: Recorder>(self, alloc: Global, recorder: &mut Option<K>) {
+        let EndedRecord {
+            number,
+            configuration,
+            shape,
+            settled,
+            logs,
+            fault: _,
+            queues,
+        } = self;
+        if let Some(recorder) = recorder {
+            let run = FinishedRun {
+                configuration: &configuration,
+                shape,
+                settled: &settled,
+                logs: &logs,
+            };
+            recorder.take(alloc, RunPlace::Followed { number }, &run);
+        }
+        drop(configuration);
+        drop((settled, logs, queues));
+    }
+}
+
+/// Takes a relay apart whose threads have ended, and whose queues have settled in this way: each destination's queue is behind what
+/// its sender had in hand. There is room for what that leaves.
+pub(crate) fn ended_of<B: Set>(
+    alloc: Global,
+    relay: Relay<B>,
+    room: EndRoom,
+    number: u64,
+    settled: Result<Settled, SettleFault>,
+    logs: ThreadLogs,
+    fault: Option<RelayFault>,
+) -> EndedRun {
+    let Relay {
+        configuration,
+        shape,
+        queues,
+        state,
+        slots,
+        gone,
+        streams,
+        ..
+    } = relay;
+    let EndRoom {
+        queues: mut left,
+        mut lefts,
+        mut ended,
+    } = room;
+    let mut notes = state.into_notes();
+    slots.into_lefts(&mut lefts);
+    queues.end(&mut left);
+    for (place, queue) in left.into_iter().enumerate() {
+        ended.push_reserved(add_queue(alloc, queue, place, &shape, &mut notes, &mut lefts));
+    }
+    for receiver in notes.receivers.as_slice() {
+        receiver.begin_run();
+    }
+    EndedRun {
+        record: EndedRecord {
+            number,
+            configuration,
+            shape: shape.recorded(),
+            settled,
+            logs,
+            fault,
+            queues: ended,
+        },
+        notes,
+        lefts,
+        gone,
+        streams,
+    }
+}
+
+/// Puts the datapoints of a destination's queue behind what is left for it, and notes what was counted. Returns what the queue
+/// recorded.
+fn add_queue(
+    alloc: Global,
+    queue: LeftQueue,
+    place: usize,
+    shape: &Shape,
+    notes: &mut RunNotes,
+    lefts: &mut Vec<LeftDest>,
+) -> EndedQueue {
+    let LeftQueue {
+        counts,
+        points,
+        ended,
+    } = queue;
+    let dropped = match lefts.get_mut(place) {
+        Some(left) => add_points(alloc, left, points, shape),
+        None => points.len(),
+    };
+    if let Some(earlier) = notes.earlier.get_mut(place) {
+        *earlier = earlier.after_run(counts).after_drops(dropped as u64);
+    }
+    if let (Some(notes), Some(left)) = (notes.rests.get(place), lefts.get(place)) {
+        let (queued, in_hand) = left.counts();
+        notes.note(queued, in_hand);
+    }
+    ended
+}
+
+/// Puts the datapoints of a queue behind what is left for its destination. Returns how many were dropped: those for which there was
+/// no room, or all if a sender that had ended early left nothing and there is no memory for what sends them.
+fn add_points(alloc: Global, left: &mut LeftDest, points: QueuedPoints, shape: &Shape) -> usize {
+    if let Some(rest) = &mut left.rest {
+        return rest.add(points, shape.size);
+    }
+    let count = points.len();
+    if count == 0 {
+        return 0;
+    }
+    match rest_of(alloc, shape.limit, points) {
+        Ok(rest) => {
+            left.rest = Some(rest);
+            0
+        }
+        Err(NoMemory) => count,
+    }
+}
+
+/// A rest of these datapoints, of which none is in hand.
+fn rest_of(alloc: Global, limit: usize, points: QueuedPoints) -> Result<Rest, NoMemory>
+    requires limit { (1 ≤ limit) × (limit ≤ LARGEST_MESSAGE) }
+{
+    let lent = Hand::new(alloc, limit)?;
+    let writer = Writer::new(alloc, limit)?;
+    Ok(Rest::new(limit, writer, lent, points))
+}
