@@ -43,7 +43,7 @@ pub(crate) fn add_parting<'x, B: Set, R: RelayRuntime>(
         connector,
         spool,
         rests,
-        limit: relay.limit,
+        limit: relay.file_limit,
         began: relay.began,
     };
     put(parting, Some(job));
@@ -63,7 +63,7 @@ fn places_of<'x, B: Set, R: RelayRuntime>(
     let gone = &maker.relay.gone;
     let count = gone.dests.len();
     let rests = SenderRests::new(maker.alloc, count, gone.rests.as_slice())?;
-    match SenderSpool::new(maker.alloc, count, maker.relay.limit, &[]) {
+    match SenderSpool::new(maker.alloc, count, maker.relay.file_limit, &[]) {
         Ok(spool) => Ok((spool, rests)),
         Err(fault) => {
             drop(rests);

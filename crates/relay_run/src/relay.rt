@@ -44,7 +44,7 @@ pub(crate) struct Relay<B: Set> {
     // Since when its milliseconds count, whether no run was before, and the system's limit for the size of a file.
     pub(crate) began: Option<Instant>,
     pub(crate) is_first: bool,
-    pub(crate) limit: Option<u64>,
+    pub(crate) file_limit: Option<u64>,
     ghost dests: { (shape.dests ≡ B.dests) × (1 ≤ shape.dests) × (shape.dests ≤ 64) },
     ghost all: { length configuration.settings.routing.destinations ≡ B.dests },
     ghost size: { (1 ≤ shape.size) × (shape.size ≤ 1000000) },
@@ -230,7 +230,7 @@ fn open_relay<B: Set, L: Drop>(
             streams,
             began: process.began,
             is_first,
-            limit: process.file_limit(),
+            file_limit: process.file_limit(),
         },
         parts: Parts {
             seats: Seats { doors, outlets },

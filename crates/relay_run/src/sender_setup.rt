@@ -121,7 +121,7 @@ fn places_of<'x, B: Set, R: RelayRuntime>(
     } else {
         0
     };
-    let spool = SenderSpool::new(maker.alloc, count, relay.limit, state.spool_notes())?;
+    let spool = SenderSpool::new(maker.alloc, count, relay.file_limit, state.spool_notes())?;
     if relay.is_first {
         return Ok((spool, SenderRests::none(maker.alloc, state.rests())));
     }

@@ -67,7 +67,7 @@ fn owned(alloc: Global, text: Option<&str>) -> Result<Option<String>, NoMemory> 
 /// The limit on names that digits are, if it is one.
 fn longest_name_in(digits: &str) -> Option<LongestName> {
     let characters = whole_number_up_to(digits, MOST_CHARACTERS as u64)?;
-    LongestName::new(characters as usize)
+    LongestName::new(characters)
 }
 
 /// The configuration of the files at these paths, or why there is none.
