@@ -3,7 +3,7 @@
 use crate::marks::{print_answer, print_text};
 use finished_run::NoRecorder;
 use relay_files::{RelayFault, RunConfiguration, Source, Sources, Status};
-use relay_run::{RefusedReload, ReloadFiles, RelayRuntime, RunOptions};
+use relay_run::{RefusedReload, ReloadSource, RelayRuntime, RunOptions};
 use std::alloc::Global;
 use std::io::{Read, Sink, Write};
 use std::net::{
@@ -63,7 +63,7 @@ impl<'c> Source for ConfigurationText<'c> {
 #[derive(Drop)]
 struct NoFiles;
 
-impl ReloadFiles for NoFiles {
+impl ReloadSource for NoFiles {
     fn read(&self, alloc: Global, _request: &[u8]) -> Result<RunConfiguration, RefusedReload> {
         Err(RefusedReload::no_memory(alloc))
     }

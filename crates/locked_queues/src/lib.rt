@@ -19,7 +19,7 @@ mod settle;
 mod settled;
 mod shares;
 
-pub use ended_set::LeftQueue;
+pub use ended_set::EndedSet;
 pub use gate::{Gate, GatePoint, OpenGate};
 pub use locked_door::{HeldLock, LockedDoor};
 pub use outlet::Outlet;

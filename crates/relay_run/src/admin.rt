@@ -7,7 +7,7 @@ use crate::first_thread::FirstThread;
 use crate::listeners::FirstPorts;
 use crate::prepared_run::{PreparedRun, prepared_by};
 use crate::relay::Relay;
-use crate::reload_files::{RefusedReload, ReloadFiles};
+use crate::reload_source::{RefusedReload, ReloadSource};
 use crate::runtime::RelayRuntime;
 use crate::spool_folder::SpoolFolder;
 use admin_port::{AdminListener, Answers, AskedReload};
@@ -111,7 +111,7 @@ impl RunBefore {
     }
 }
 
-impl<'p, B: Set, R: RelayRuntime, W: Write, F: ReloadFiles, K: Recorder> AdminPort<'p, B, R, W, F, K> {
+impl<'p, B: Set, R: RelayRuntime, W: Write, F: ReloadSource, K: Recorder> AdminPort<'p, B, R, W, F, K> {
     /// Says that the relay is ready: to the output, or, if a run was before, to the connection that has asked for this one.
     fn say_ready(&mut self) -> Result<(), RelayFault> {
         match self.before.waiting.take() {
@@ -124,10 +124,12 @@ impl<'p, B: Set, R: RelayRuntime, W: Write, F: ReloadFiles, K: Recorder> AdminPo
         }
     }
 
-    /// Ends the run before, if there was one: it is recorded, and what it held is freed.
+    /// Ends the run before, if there was one: it settles and is recorded, the log says how it settled, and what it held is freed.
     fn end_before(&mut self, alloc: Global) {
         if let Some(record) = self.before.record.take() {
-            record.finish(alloc, self.recorder);
+            if let Ok(text) = record.finish(alloc, self.recorder) {
+                self.relay.late_news.put(self.rt, text);
+            }
         }
     }
 
@@ -192,7 +194,7 @@ fn refuse(
     }
 }
 
-impl<B: Set, R: RelayRuntime, W: Write, F: ReloadFiles, K: Recorder> FirstThread<R>
+impl<B: Set, R: RelayRuntime, W: Write, F: ReloadSource, K: Recorder> FirstThread<R>
     for AdminPort<'_, B, R, W, F, K> {
     ghost written = { λ port. W.contents port.output.now };
 
@@ -243,6 +245,7 @@ impl<B: Set, R: RelayRuntime, W: Write, F: ReloadFiles, K: Recorder> FirstThread
 
     fn wake_senders(&self) {
         self.relay.gate.wake_all();
+        self.relay.gone_gate.wake_all();
     }
 }
 

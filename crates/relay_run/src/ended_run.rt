@@ -2,19 +2,21 @@
 
 ghost use Rattle.std.specs.Prelude.{◌≤◌};
 
+use crate::closing::closing_text;
 use crate::end_room::EndRoom;
 use crate::gone_dests::GoneDests;
 use crate::left_dest::LeftDest;
 use crate::relay::Relay;
 use crate::shape::Shape;
-use dest_queue::{EndedQueue, Hand, QueuedPoints};
+use crate::thread_records::Records;
+use dest_queue::{Hand, QueuedPoints};
 use dest_writer::Writer;
-use finished_run::{FinishedRun, Recorder, RunPlace, RunShape, ThreadLogs};
+use finished_run::{FinishedRun, Recorder, RunPlace, RunShape};
 use handover::Rest;
-use locked_queues::{LeftQueue, Set, SettleFault, Settled};
+use locked_queues::{EndedSet, Set};
 use receivers::HandedStreams;
 use relay_base::{LARGEST_MESSAGE, NoMemory};
-use relay_files::{RelayFault, RunConfiguration};
+use relay_files::RunConfiguration;
 use run_state::RunNotes;
 use std::alloc::Global;
 use std::sync::Arc;
@@ -30,31 +32,39 @@ pub(crate) struct EndedRun {
     pub(crate) streams: Vec<Arc<HandedStreams>>,
 }
 
-/// What the record of a run is made of: its number, its configuration and its numbers, how it settled, what its threads logged, and
-/// the fault of one, if one had a fault; and what its queues recorded, which is freed with it.
+/// What the record of a run is made of: its number, its configuration and its numbers, its queues without their datapoints, and what
+/// its threads recorded and logged, with the fault of one, if one had a fault.
 #[derive(Drop)]
 pub(crate) struct EndedRecord {
     pub(crate) number: u64,
     pub(crate) configuration: RunConfiguration,
     pub(crate) shape: RunShape,
-    pub(crate) settled: Result<Settled, SettleFault>,
-    pub(crate) logs: ThreadLogs,
-    pub(crate) fault: Option<RelayFault>,
-    pub(crate) queues: Vec<EndedQueue>,
+    pub(crate) set: EndedSet,
+    pub(crate) records: Records,
 }
 
 impl EndedRecord {
-    /// Gives the recorder, if there is one, what the run left, and frees that.
-    pub(crate) fn finish<K: Recorder>(self, alloc: Global, recorder: &mut Option<K>) {
+    /// Settles the run, gives the recorder, if there is one, what it left, and frees that. Returns the lines of the log on the run.
+    pub(crate) fn finish<K: Recorder>(
+        self,
+        alloc: Global,
+        recorder: &mut Option<K>,
+    ) -> Result<String, NoMemory> {
         let EndedRecord {
             number,
             configuration,
             shape,
-            settled,
-            logs,
-            fault: _,
-            queues,
+            set,
+            records,
         } = self;
+        let Records {
+            doors,
+            outlets,
+            logs,
+            fault,
+        } = records;
+        let settled = set.settle(alloc, doors.as_slice(), outlets.as_slice());
+        drop((doors, outlets));
         if let Some(recorder) = recorder {
             let run = FinishedRun {
                 configuration: &configuration,
@@ -64,21 +74,21 @@ impl EndedRecord {
             };
             recorder.take(alloc, RunPlace::Followed { number }, &run);
         }
+        let text = closing_text(alloc, number, &settled, fault);
         drop(configuration);
-        drop((settled, logs, queues));
+        drop((settled, logs));
+        text
     }
 }
 
-/// Takes a relay apart whose threads have ended, and whose queues have settled in this way: each destination's queue is behind what
-/// its sender had in hand. There is room for what that leaves.
+/// Takes a relay apart whose threads have ended, and recorded this: each destination's queue is behind what its sender had in hand.
+/// There is room for what that leaves.
 pub(crate) fn ended_of<B: Set>(
     alloc: Global,
     relay: Relay<B>,
     room: EndRoom,
     number: u64,
-    settled: Result<Settled, SettleFault>,
-    logs: ThreadLogs,
-    fault: Option<RelayFault>,
+    records: Records,
 ) -> EndedRun {
     let Relay {
         configuration,
@@ -90,16 +100,12 @@ pub(crate) fn ended_of<B: Set>(
         streams,
         ..
     } = relay;
-    let EndRoom {
-        queues: mut left,
-        mut lefts,
-        mut ended,
-    } = room;
+    let EndRoom { set, mut lefts } = room;
     let mut notes = state.into_notes();
     slots.into_lefts(&mut lefts);
-    queues.end(&mut left);
-    for (place, queue) in left.into_iter().enumerate() {
-        ended.push_reserved(add_queue(alloc, queue, place, &shape, &mut notes, &mut lefts));
+    let mut set = queues.end(set);
+    for place in (0..shape.dests).rev() {
+        add_queue(alloc, &mut set, place, &shape, &mut notes, &mut lefts);
     }
     for receiver in notes.receivers.as_slice() {
         receiver.begin_run();
@@ -109,10 +115,8 @@ pub(crate) fn ended_of<B: Set>(
             number,
             configuration,
             shape: shape.recorded(),
-            settled,
-            logs,
-            fault,
-            queues: ended,
+            set,
+            records,
         },
         notes,
         lefts,
@@ -121,21 +125,19 @@ pub(crate) fn ended_of<B: Set>(
     }
 }
 
-/// Puts the datapoints of a destination's queue behind what is left for it, and notes what was counted. Returns what the queue
-/// recorded.
+/// Puts the datapoints of a destination's queue, the last one that was not taken yet, behind what is left for it, and notes what was
+/// counted.
 fn add_queue(
     alloc: Global,
-    queue: LeftQueue,
+    set: &mut EndedSet,
     place: usize,
     shape: &Shape,
     notes: &mut RunNotes,
     lefts: &mut Vec<LeftDest>,
-) -> EndedQueue {
-    let LeftQueue {
-        counts,
-        points,
-        ended,
-    } = queue;
+) {
+    let (Some(points), Some(counts)) = (set.take_points(), set.counts().get(place).copied()) else {
+        return;
+    };
     let dropped = match lefts.get_mut(place) {
         Some(left) => add_points(alloc, left, points, shape),
         None => points.len(),
@@ -147,7 +149,6 @@ fn add_queue(
         let (queued, in_hand) = left.counts();
         notes.note(queued, in_hand);
     }
-    ended
 }
 
 /// Puts the datapoints of a queue behind what is left for its destination. Returns how many were dropped: those for which there was

@@ -52,9 +52,7 @@ pub(crate) fn end_threads<R: Threads + Wait + Clock, O: Send + Drop, M: FirstThr
         ..
     } = started;
     let is_last = served.is_ok() && !first.is_followed();
-    if first.is_followed() {
-        signals.begin_handing();
-    }
+    let server = end_server(rt, signals, servers, first.is_followed());
     close_if(rt, alloc, is_last, first);
     signals.stop_receivers();
     first.wake_receivers();
@@ -68,7 +66,10 @@ pub(crate) fn end_threads<R: Threads + Wait + Clock, O: Send + Drop, M: FirstThr
     let _ends = join_all(rt, alloc, parting);
     signals.stop_watchers();
     let log = join_last(rt, logs);
-    let server = join_last(rt, servers);
+    let server = match server {
+        ServerEnd::Ended(server) => server,
+        ServerEnd::Runs(servers) => join_last(rt, servers),
+    };
     ThreadEnds {
         receivers,
         senders,
@@ -76,6 +77,29 @@ pub(crate) fn end_threads<R: Threads + Wait + Clock, O: Send + Drop, M: FirstThr
         server,
         served,
     }
+}
+
+/// The status server, if there is one, or its thread, which goes on.
+#[derive(Drop)]
+enum ServerEnd {
+    Ended(Option<StatusServer>),
+    Runs(Vec<JoinHandle<StatusServer>>),
+}
+
+/// If another run follows, says so to the threads, and ends that of the status server: it takes some milliseconds, in which the
+/// others go on.
+fn end_server<R: Threads + Wait>(
+    rt: &R,
+    signals: &Signals,
+    servers: Vec<JoinHandle<StatusServer>>,
+    is_followed: bool,
+) -> ServerEnd {
+    if !is_followed {
+        return ServerEnd::Runs(servers);
+    }
+    signals.begin_handing();
+    signals.stop_status();
+    ServerEnd::Ended(join_last(rt, servers))
 }
 
 /// Joins the thread of a list that has one at most. Returns how it ended.

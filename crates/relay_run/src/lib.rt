@@ -31,7 +31,7 @@ mod ready_datagrams;
 mod receiver_job;
 mod receiver_setup;
 mod relay;
-mod reload_files;
+mod reload_source;
 mod rest_connector;
 mod run_command;
 mod running;
@@ -52,7 +52,7 @@ mod thread_records;
 mod threads;
 
 pub use descriptors::{descriptors_needed, free_descriptors};
-pub use reload_files::{RefusedReload, ReloadFiles};
+pub use reload_source::{RefusedReload, ReloadSource};
 pub use options::{RunOptions, StatusOptions};
 pub use run_command::run;
 pub use runtime::{RelayRuntime, SystemTables};

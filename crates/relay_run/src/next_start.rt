@@ -9,7 +9,7 @@ use crate::gone_dests::{GoneDests, PartingDest};
 use crate::inherited::Inherited;
 use crate::left_dest::LeftDest;
 use crate::listeners::{FirstPorts, Ports};
-use crate::prepared_run::PreparedRun;
+use crate::prepared_run::NextPlan;
 use crate::start::{Process, Start};
 use conf_text::Dest;
 use dest_queue::EarlierCounts;
@@ -37,7 +37,7 @@ struct NewPlaces {
 pub(crate) fn start_after(
     alloc: Global,
     ended: &mut EndedRun,
-    prepared: PreparedRun,
+    prepared: NextPlan,
     first: FirstPorts,
     server: Option<StatusServer>,
     logged: Vec<ReceiverLog>,
@@ -45,7 +45,7 @@ pub(crate) fn start_after(
     millis: u64,
 ) -> Result<Start, NoMemory> {
     let places = places_of(alloc, ended, &prepared, process, millis)?;
-    let PreparedRun {
+    let NextPlan {
         configuration,
         receivers,
         blank,
@@ -80,7 +80,7 @@ pub(crate) fn start_after(
 fn places_of(
     alloc: Global,
     ended: &EndedRun,
-    prepared: &PreparedRun,
+    prepared: &NextPlan,
     process: &Process<'_>,
     millis: u64,
 ) -> Result<NewPlaces, NoMemory> {
@@ -101,7 +101,7 @@ fn places_of(
 fn parting_of(
     alloc: Global,
     ended: &EndedRun,
-    prepared: &PreparedRun,
+    prepared: &NextPlan,
     process: &Process<'_>,
     millis: u64,
 ) -> Result<Vec<Option<PartingDest>>, NoMemory> {

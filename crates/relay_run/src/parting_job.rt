@@ -16,7 +16,7 @@ use std::rt::Clock;
 use std::sync::Wait;
 use std::time::Instant;
 
-/// For how many milliseconds a wait lasts at most: so late the thread sees that it is to stop.
+/// For how many milliseconds a wait lasts at most: so late a try to connect begins.
 const MOST_WAIT_MS: u64 = 10;
 
 /// How many milliseconds the stores have to read to their end once nothing more is sent.
@@ -82,6 +82,7 @@ fn send_until_over<R: Wait + Clock, N: Connect>(
     for _ in rt.forever() {
         let millis = times.millis();
         send_to_all(connector, gone, millis);
+        connector.about_to_wait();
         if !gone.are_sent_to(millis) || signals.senders_end() {
             return;
         }

@@ -24,7 +24,7 @@ pub(crate) fn add_parting<'x, B: Set, R: RelayRuntime>(
     ensures { IfErr result (λ fault. is_start_fault fault ≡ true) }
 {
     let relay = maker.relay;
-    let (Some(readiness), Some(alarm)) = (readiness, &relay.gone_alarm) else {
+    let (Some(readiness), Some(alarm)) = (readiness, relay.gone_gate.alarm(0)) else {
         return Ok(());
     };
     let gone = &relay.gone;

@@ -3,7 +3,7 @@
 use crate::end_room::EndRoom;
 use crate::listeners::{BoundPort, FirstPorts};
 use crate::relay::Relay;
-use crate::reload_files::{RefusedReload, ReloadFiles};
+use crate::reload_source::{RefusedReload, ReloadSource};
 use crate::runtime::RelayRuntime;
 use crate::spool_folder::{SpoolFolder, open_new_files};
 use admin_client::Refusal;
@@ -17,11 +17,18 @@ use relay_files::{RelayFault, RunConfiguration};
 use spool::SpoolFiles;
 use std::alloc::Global;
 
-/// A run that is to follow the one that runs: its configuration, which was read and checked; its ports; the totals of its queues;
-/// where each of its destinations is among those of the run, and among those that are gone; the files of the others; the line of
-/// the log; room for what the run that runs leaves; and the connection that waits for the answer.
+/// A run that is to follow the one that runs, and room for what that leaves.
 #[derive(Drop)]
 pub(crate) struct PreparedRun {
+    pub(crate) next: NextPlan,
+    pub(crate) room: EndRoom,
+}
+
+/// A run that is to follow the one that runs: its configuration, which was read and checked; its ports; the totals of its queues;
+/// where each of its destinations is among those of the run, and among those that are gone; the files of the others; the line of
+/// the log; and the connection that waits for the answer.
+#[derive(Drop)]
+pub(crate) struct NextPlan {
     pub(crate) configuration: RunConfiguration,
     pub(crate) receivers: Vec<BoundPort>,
     pub(crate) blank: BlankTotals,
@@ -29,13 +36,12 @@ pub(crate) struct PreparedRun {
     pub(crate) returned: Vec<Option<DestId>>,
     pub(crate) files: SpoolFiles,
     pub(crate) line: String,
-    pub(crate) room: EndRoom,
     pub(crate) connection: u64,
 }
 
 /// Reads the files that a request names, and makes ready what a run by them needs before the one that runs ends. Refuses a fault of
 /// the files, another setting of a port, and what the system refuses; then nothing has changed.
-pub(crate) fn prepared_by<B: Set, R: RelayRuntime, F: ReloadFiles>(
+pub(crate) fn prepared_by<B: Set, R: RelayRuntime, F: ReloadSource>(
     rt: &R,
     alloc: Global,
     relay: &Relay<B>,
@@ -85,9 +91,9 @@ fn with_room<B: Set, R: RelayRuntime>(
     let files = open_new_files(rt, alloc, new, are_known.as_slice(), folder)?;
     drop(are_known);
     let line = reload_line(alloc, &relay.configuration, &configuration)?;
-    Ok(PreparedRun {
+    let room = EndRoom::new(alloc, old.len())?;
+    let next = NextPlan {
         blank: BlankTotals::new(alloc)?,
-        room: EndRoom::new(alloc, old.len())?,
         configuration,
         receivers,
         kept,
@@ -95,7 +101,8 @@ fn with_room<B: Set, R: RelayRuntime>(
         files,
         line,
         connection,
-    })
+    };
+    Ok(PreparedRun { next, room })
 }
 
 /// Which destinations the run has, or has as gone.

@@ -16,9 +16,9 @@ use mio_loops::Readiness;
 use receivers::HandedStreams;
 use relay_base::{LARGEST_MESSAGE, LARGEST_QUEUE_SIZE};
 use relay_files::{RelayFault, RunConfiguration};
-use relay_watchers::{ReceiverLog, StatusServer};
+use relay_watchers::{LateNews, ReceiverLog, StatusServer};
 use run_state::{DestSources, RunState};
-use senders::{Alarm, WakeGate};
+use senders::WakeGate;
 use std::alloc::Global;
 use std::net::Net;
 use std::sync::Arc;
@@ -29,7 +29,7 @@ pub(crate) const NAME: u64 = 1;
 
 /// What a run is made of, and its threads borrow: its configuration and its numbers, its queues, the gate that wakes the
 /// senders, what the threads share beside these, what is left for destinations between two runs, what is left for those that are
-/// gone, with what wakes their sender, and the connections that go from one run to the next.
+/// gone, with what wakes their sender, the connections that go from one run to the next, and what the first thread has for the log.
 #[derive(Drop)]
 pub(crate) struct Relay<B: Set> {
     pub(crate) configuration: RunConfiguration,
@@ -39,8 +39,9 @@ pub(crate) struct Relay<B: Set> {
     pub(crate) state: RunState,
     pub(crate) slots: DestSlots,
     pub(crate) gone: GoneDests,
-    pub(crate) gone_alarm: Option<Alarm>,
+    pub(crate) gone_gate: WakeGate,
     pub(crate) streams: Vec<Arc<HandedStreams>>,
+    pub(crate) late_news: LateNews,
     // Since when its milliseconds count, whether no run was before, and the system's limit for the size of a file.
     pub(crate) began: Option<Instant>,
     pub(crate) is_first: bool,
@@ -87,7 +88,7 @@ pub(crate) struct Seats<B: Set> {
 struct SharedParts {
     gate: WakeGate,
     state: RunState,
-    gone_alarm: Option<Alarm>,
+    gone_gate: WakeGate,
     gone_watch: Option<Readiness>,
     watches: Vec<Readiness>,
 }
@@ -200,7 +201,7 @@ fn open_relay<B: Set, L: Drop>(
     let SharedParts {
         gate,
         state,
-        gone_alarm,
+        gone_gate,
         gone_watch,
         watches,
     } = shared;
@@ -226,8 +227,9 @@ fn open_relay<B: Set, L: Drop>(
             state: state.with_notes(notes),
             slots,
             gone,
-            gone_alarm,
+            gone_gate,
             streams,
+            late_news: LateNews::none(),
             began: process.began,
             is_first,
             file_limit: process.file_limit(),
@@ -258,7 +260,7 @@ fn shared_of(
 {
     let watches = watches_of(rt, alloc, shape.senders)?;
     let alarms = alarms_of(alloc, watches.as_slice())?;
-    let (gone_watch, gone_alarm) = gone_watch_of(rt, alloc, are_none_gone)?;
+    let (gone_watch, gone_gate) = gone_watch_of(rt, alloc, are_none_gone)?;
     let state = RunState::new(
         alloc,
         shape.dests,
@@ -269,24 +271,21 @@ fn shared_of(
     Ok(SharedParts {
         gate: WakeGate::new(alarms),
         state,
-        gone_alarm,
+        gone_gate,
         gone_watch,
         watches,
     })
 }
 
-/// What the sender to destinations that are gone waits with, and its alarm; none if there are none.
+/// What the sender to destinations that are gone waits with, and the gate that wakes it; none if there are none.
 fn gone_watch_of(
     rt: &impl Net,
     alloc: Global,
     are_none: bool,
-) -> Result<(Option<Readiness>, Option<Alarm>), RelayFault>
+) -> Result<(Option<Readiness>, WakeGate), RelayFault>
     ensures { IfErr result (λ fault. is_start_fault fault ≡ true) }
 {
-    if are_none {
-        return Ok((None, None));
-    }
-    let mut watches = watches_of(rt, alloc, 1)?;
-    let mut alarms = alarms_of(alloc, watches.as_slice())?;
-    Ok((watches.pop(), alarms.pop()))
+    let mut watches = watches_of(rt, alloc, usize::from(!are_none))?;
+    let alarms = alarms_of(alloc, watches.as_slice())?;
+    Ok((watches.pop(), WakeGate::new(alarms)))
 }

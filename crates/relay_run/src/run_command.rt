@@ -12,16 +12,15 @@ ghost use Rattle.relay_files.specs.Files.{AllReadAs};
 ghost use Rattle.relay_run.specs.Running.{RunEnds, RunFails, EndsWithStatus, EndsWithFault};
 
 use crate::admin::RunBefore;
-use crate::closing::{closing_text, write_end};
-use crate::end_room::EndRoom;
+use crate::closing::write_end;
 use crate::ended_run::{EndedRun, ended_of};
 use crate::inherited::Inherited;
 use crate::listeners::FirstPorts;
 use crate::next_start::start_after;
 use crate::options::RunOptions;
-use crate::prepared_run::PreparedRun;
+use crate::prepared_run::{NextPlan, PreparedRun};
 use crate::relay::{NAME, OpenRelay, Parts, Relay};
-use crate::reload_files::ReloadFiles;
+use crate::reload_source::ReloadSource;
 use crate::running::{FirstWork, RanThreads, run_until_ended};
 use crate::runtime::RelayRuntime;
 use crate::spool_folder::SpoolFolder;
@@ -29,7 +28,7 @@ use crate::spool_left::{spool_slots, spool_lefts};
 use crate::start::{Process, Start};
 use crate::thread_records::RunLeft;
 use finished_run::Recorder;
-use locked_queues::{Set, SettleFault, Settled};
+use locked_queues::Set;
 use mio_loops::{SystemTimes, TimeSource};
 use relay_base::NoMemory;
 use relay_files::{RelayFault, RunConfiguration, Source, Sources, Status};
@@ -37,7 +36,6 @@ use relay_watchers::{LogEnd, StatusServer};
 use std::alloc::Global;
 use std::io::Write;
 use std::marker::Brand;
-use std::mem;
 use std::rt::Clock;
 use std::time::Instant;
 
@@ -83,7 +81,7 @@ pub fn run<
     W: Write,
     L: Write + Send + Drop,
     K: Recorder + Drop,
-    F: ReloadFiles,
+    F: ReloadSource,
 >(
     rt: &R,
     alloc: Global,
@@ -145,7 +143,7 @@ fn run_all<
     W: Write,
     L: Write + Send + Drop,
     K: Recorder + Drop,
-    F: ReloadFiles,
+    F: ReloadSource,
 >(
     rt: &R,
     alloc: Global,
@@ -179,7 +177,7 @@ fn one_run<
     W: Write,
     L: Write + Send + Drop,
     K: Recorder + Drop,
-    F: ReloadFiles,
+    F: ReloadSource,
 >(
     rt: &R,
     alloc: Global,
@@ -199,7 +197,7 @@ fn run_relay<
     W: Write,
     L: Write + Send + Drop,
     K: Recorder + Drop,
-    F: ReloadFiles,
+    F: ReloadSource,
 >(
     rt: &R,
     alloc: Global,
@@ -252,31 +250,17 @@ fn run_relay<
             return Err(fault);
         }
     };
-    let settled = settle(alloc, &mut relay, &left);
     match next {
-        Some(next) => follow(rt, alloc, relay, left, settled, next, ports, process, number),
-        None => stop(alloc, relay, left, settled, ports, output, recorder),
+        Some(next) => follow(rt, alloc, relay, left, next, ports, process, number),
+        None => stop(alloc, relay, left, ports, output, recorder),
     }
 }
 
-/// Settles the queues of a relay with what its threads recorded.
-fn settle<B: Set, L: Drop>(
-    alloc: Global,
-    relay: &mut Relay<B>,
-    left: &RunLeft<L>,
-) -> Result<Settled, SettleFault> {
-    let records = &left.records;
-    relay
-        .queues
-        .settle(alloc, records.doors.as_slice(), records.outlets.as_slice())
-}
-
-/// Writes what the last run leaves, and drops it.
+/// Settles the last run, writes what it leaves, and drops it.
 fn stop<B: Set, W: Write, L: Drop, K: Recorder>(
     alloc: Global,
     relay: Relay<B>,
     left: RunLeft<L>,
-    settled: Result<Settled, SettleFault>,
     ports: FirstPorts,
     output: &mut W,
     recorder: &mut Option<K>,
@@ -284,6 +268,10 @@ fn stop<B: Set, W: Write, L: Drop, K: Recorder>(
     ensures ok { IfOk result (λ _. RunEnds (W.contents output.old) (W.contents output.new)) }
     ensures err { IfErr result (RunFails (W.contents output.old) (W.contents output.new)) }
 {
+    let mut relay = relay;
+    let records = &left.records;
+    let (doors, outlets) = (records.doors.as_slice(), records.outlets.as_slice());
+    let settled = relay.queues.settle(alloc, doors, outlets);
     let run = relay.finished(&settled, &left.records.logs);
     let ended = write_end(alloc, &run, left.records.fault, output, recorder);
     drop(settled);
@@ -304,25 +292,19 @@ fn follow<B: Set, R: RelayRuntime, L: Drop>(
     alloc: Global,
     relay: Relay<B>,
     left: RunLeft<L>,
-    settled: Result<Settled, SettleFault>,
     next: PreparedRun,
     ports: FirstPorts,
     process: &Process<'_>,
     number: u64,
 ) -> Result<RunEnd<L>, RelayFault> {
-    let mut next = next;
     let RunLeft {
         records,
         log,
         server,
     } = left;
-    let fault = records.fault;
-    let logs = records.logs;
-    drop((records.doors, records.outlets));
-    let line = closing_text(alloc, number, &settled, fault);
-    let room = mem::replace(&mut next.room, EndRoom::none(alloc));
-    let mut ended = ended_of(alloc, relay, room, number, settled, logs, fault);
-    match following(rt, alloc, &mut ended, next, line, ports, log, server, process) {
+    let PreparedRun { next, room } = next;
+    let mut ended = ended_of(alloc, relay, room, number, records);
+    match following(rt, alloc, &mut ended, next, ports, log, server, process) {
         Ok((start, log, waiting)) => Ok(RunEnd::Followed(NextRun {
             start,
             log,
@@ -347,18 +329,12 @@ fn following<R: Clock, L: Drop>(
     rt: &R,
     alloc: Global,
     ended: &mut EndedRun,
-    next: PreparedRun,
-    line: Result<String, NoMemory>,
+    next: NextPlan,
     ports: FirstPorts,
     log: Option<LogEnd<L>>,
     server: Option<StatusServer>,
     process: &Process<'_>,
 ) -> Result<(Start, Option<L>, u64), NoMemory> {
-    let mut next = next;
-    if let Ok(line) = &line {
-        next.line.push_str(line.as_str())?;
-    }
-    drop(line);
     let (output, logged) = match log {
         Some(log) => (Some(log.output), log.receivers),
         None => (None, Vec::new(alloc)),

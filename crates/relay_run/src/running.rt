@@ -10,7 +10,7 @@ use crate::parting_job::PartingJob;
 use crate::prepared_run::PreparedRun;
 use crate::receiver_job::ReceiverJob;
 use crate::relay::{Parts, Relay};
-use crate::reload_files::ReloadFiles;
+use crate::reload_source::ReloadSource;
 use crate::runtime::RelayRuntime;
 use crate::sender_job::SenderJob;
 use crate::spool_folder::SpoolFolder;
@@ -53,7 +53,7 @@ pub(crate) fn run_until_ended<
     R: RelayRuntime,
     W: Write,
     L: Write + Send + Drop,
-    F: ReloadFiles,
+    F: ReloadSource,
     K: Recorder,
 >(
     rt: &'x R,
@@ -93,7 +93,7 @@ fn run_jobs<
     R: RelayRuntime,
     W: Write,
     L: Write + Send + Drop,
-    F: ReloadFiles,
+    F: ReloadSource,
     K: Recorder,
 >(
     rt: &R,

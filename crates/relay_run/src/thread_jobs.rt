@@ -184,6 +184,7 @@ fn add_watching<'x, B: Set, R, L: Write + Drop>(
         queues: &relay.queues,
         noted: relay.noted(),
         gone: relay.gone.shown.as_slice(),
+        late_news: &relay.late_news,
         size: relay.shape.size,
         version: relay.shape.version(),
         configuration: relay.configuration.sum(),

@@ -9,6 +9,7 @@
 mod dest_rest;
 mod dest_track;
 mod gone_dest;
+mod late_news;
 mod log_job;
 mod log_writes;
 mod process;
@@ -19,6 +20,7 @@ mod status_job;
 mod watchers;
 
 pub use gone_dest::GoneDest;
+pub use late_news::LateNews;
 pub use log_job::{LogEnd, LogJob};
 pub use process::SystemFacts;
 pub use receiver_log::ReceiverLog;

@@ -4,6 +4,7 @@ ghost use Rattle.std.specs.Prelude.{◌≡◌, ◌<◌, length};
 
 use crate::dest_rest::{DestRest, RestOfAll};
 use crate::gone_dest::GoneDest;
+use crate::late_news::LateNews;
 use crate::log_writes::{write_dest_end, write_gone_end, write_line};
 use crate::receiver_log::ReceiverLog;
 use conf_text::Dest;
@@ -53,6 +54,7 @@ pub struct LogJob<'x, B: Set, L> {
     queues: &'x Queues<B>,
     noted: DestSources<'x>,
     gone: &'x [GoneDest],
+    late_news: &'x LateNews,
     size: usize,
     reported: Vec<ReportedDest>,
     receivers: Vec<ReceiverLog>,
@@ -115,6 +117,7 @@ impl<'x, B: Set, L: Write + Drop> LogJob<'x, B, L> {
         queues: &'x Queues<B>,
         noted: DestSources<'x>,
         gone: &'x [GoneDest],
+        late_news: &'x LateNews,
         size: usize,
         receivers: Vec<ReceiverLog>,
         news: String,
@@ -128,6 +131,7 @@ impl<'x, B: Set, L: Write + Drop> LogJob<'x, B, L> {
             queues,
             noted,
             gone,
+            late_news,
             size,
             reported,
             receivers,
@@ -149,13 +153,16 @@ impl<'x, B: Set, L: Write + Drop> LogJob<'x, B, L> {
             pause(rt, signals);
             self.look_at_all(rt, alloc, signals, times.millis());
             self.write_sent(alloc, signals);
-            self.write_gone(alloc);
+            self.write_others(rt, alloc);
         }
         unreachable!()
     }
 
-    /// Writes what became of the destinations that are gone, of each once.
-    fn write_gone(&mut self, alloc: Global) {
+    /// Writes what the first thread has for the log, and what became of the destinations that are gone, of each once.
+    fn write_others<R: Wait>(&mut self, rt: &R, alloc: Global) {
+        if let Some(text) = self.late_news.take(rt) {
+            write_line(&mut self.output, Ok(text));
+        }
         let mut bit: u64 = 1;
         for gone in self.gone {
             if let (Some(end), 0) = (gone.notes.end(), self.gone_reported & bit) {
@@ -177,7 +184,7 @@ impl<'x, B: Set, L: Write + Drop> LogJob<'x, B, L> {
         for receiver in self.receivers.as_mut_slice().iter_mut() {
             write_line(&mut self.output, receiver.lines(alloc, millis));
         }
-        self.write_gone(alloc);
+        self.write_others(rt, alloc);
     }
 
     /// Looks at each destination and each receiver once, and writes at most one line of each kind for it. Once
@@ -266,7 +273,7 @@ impl<'x, B: Set, L: Write + Drop> LogJob<'x, B, L> {
         for receiver in self.receivers.as_slice() {
             write_line(&mut self.output, receiver.last_lines(alloc));
         }
-        self.write_gone(alloc);
+        self.write_others(rt, alloc);
         if let Some(end) = self.noted.end {
             self.write_unsent(rt, alloc, signals, end);
         }
@@ -351,6 +358,7 @@ pub(crate) fn log_to<'x, B: Set, L: Write + Drop>(
     queues: &'x Queues<B>,
     noted: DestSources<'x>,
     gone: &'x [GoneDest],
+    late_news: &'x LateNews,
     size: usize,
     receivers: Vec<ReceiverLog>,
     news: String,
@@ -362,7 +370,7 @@ pub(crate) fn log_to<'x, B: Set, L: Write + Drop>(
     match log {
         Some(output) => {
             let job = LogJob::new(
-                alloc, queues, noted, gone, size, receivers, news, output, began,
+                alloc, queues, noted, gone, late_news, size, receivers, news, output, began,
             );
             Ok(Some(job?))
         }

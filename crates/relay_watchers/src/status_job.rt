@@ -327,7 +327,7 @@ impl<'x, B: Set, R: Wait + Clock + RandomSource + SystemFacts> ThreadWork<R, Sta
         String::from_str(alloc, "status")
     }
 
-    /// Serves until receivers and senders have ended. Returns the server.
+    /// Serves until receivers and senders have ended, or another run follows. Returns the server.
     fn work(self, rt: &R, alloc: Global, signals: &Signals) -> StatusServer {
         let StatusJob {
             mut server,
@@ -341,7 +341,7 @@ impl<'x, B: Set, R: Wait + Clock + RandomSource + SystemFacts> ThreadWork<R, Sta
     }
 }
 
-/// Serves the connections, and takes the samples that are due, until receivers and senders have ended.
+/// Serves the connections, and takes the samples that are due, until receivers and senders have ended, or another run follows.
 fn serve_until_stopped<B: Set, R: Wait + Clock + RandomSource + SystemFacts>(
     rt: &R,
     alloc: Global,
@@ -356,7 +356,7 @@ fn serve_until_stopped<B: Set, R: Wait + Clock + RandomSource + SystemFacts>(
         return;
     };
     for _ in rt.forever() {
-        if signals.watchers_stop() {
+        if signals.status_stops() {
             return;
         }
         let millis = clock.millis();

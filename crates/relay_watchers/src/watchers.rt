@@ -3,6 +3,7 @@
 ghost use Rattle.std.specs.Prelude.{◌≡◌, length};
 
 use crate::gone_dest::GoneDest;
+use crate::late_news::LateNews;
 use crate::log_job::{LogJob, log_to};
 use crate::receiver_log::{ReceiverLog, watched_of};
 use crate::status_job::{StatusJob, StatusServer, StatusWatch, status_at};
@@ -14,8 +15,8 @@ use std::alloc::Global;
 use std::io::Write;
 use std::time::Instant;
 
-/// What the threads that watch a run watch: its queues and its destinations, all of them, those that are gone, the size of the
-/// queues, the version that the status shows, the checksum of the configuration, and since when the milliseconds of a run count.
+/// What the threads that watch a run watch: its queues and its destinations, all of them, those that are gone, what the
+/// first thread has for the log, the size of the queues, the version that the status shows, the checksum of the configuration, and since when the milliseconds of a run count.
 #[derive(Clone, Copy)]
 pub struct Watched<'x, B: Set> {
     /// The queues.
@@ -24,6 +25,8 @@ pub struct Watched<'x, B: Set> {
     pub noted: DestSources<'x>,
     /// The destinations that are gone.
     pub gone: &'x [GoneDest],
+    /// What the first thread has for the log.
+    pub late_news: &'x LateNews,
     /// The size of each queue.
     pub size: usize,
     /// The version that the status shows.
@@ -52,6 +55,7 @@ pub fn watchers_of<'x, B: Set, L: Write + Drop>(
         watched.queues,
         watched.noted,
         watched.gone,
+        watched.late_news,
         watched.size,
         receivers,
         news,

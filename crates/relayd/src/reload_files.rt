@@ -8,7 +8,7 @@ use fault_notes::notes_of_fault;
 use note_text::{Notes, Sources};
 use relay_base::{NoMemory, whole_number_up_to};
 use relay_files::{LongestName, MOST_CHARACTERS, RelayFault, Role, RunConfiguration, Status};
-use relay_run::{RefusedReload, ReloadFiles};
+use relay_run::{RefusedReload, ReloadSource};
 use std::alloc::Global;
 use std::fmt::Write as _;
 
@@ -29,7 +29,7 @@ impl<'a> RelayFiles<'a> {
     }
 }
 
-impl ReloadFiles for RelayFiles<'_> {
+impl ReloadSource for RelayFiles<'_> {
     fn read(&self, alloc: Global, request: &[u8]) -> Result<RunConfiguration, RefusedReload> {
         match paths_in(alloc, request) {
             Ok(Some(paths)) => {

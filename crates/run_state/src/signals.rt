@@ -18,6 +18,8 @@ pub struct Signals {
     spooling: AtomicBool,
     senders: AtomicBool,
     watchers: AtomicBool,
+    // The status server is to stop.
+    status: AtomicBool,
     // What the threads hold goes on in another run.
     handing: AtomicBool,
     // How many of these stops were told: a thread that sleeps wakes when that changes.
@@ -39,6 +41,7 @@ impl Signals {
             spooling: AtomicBool::new(false),
             senders: AtomicBool::new(false),
             watchers: AtomicBool::new(false),
+            status: AtomicBool::new(false),
             handing: AtomicBool::new(false),
             stops: AtomicU64::new(0),
             stuck: AtomicU64::new(0),
@@ -92,6 +95,16 @@ impl Signals {
     /// Tells the senders to stop.
     pub fn stop_senders(&self) {
         self.tell(&self.senders);
+    }
+
+    /// Tells the status server to stop, before the others: another run follows, and nothing is to wait for it meanwhile.
+    pub fn stop_status(&self) {
+        self.tell(&self.status);
+    }
+
+    /// Whether the status server is to stop.
+    pub fn status_stops(&self) -> bool {
+        self.status.load(Ordering::SeqCst) || self.watchers_stop()
     }
 
     /// Tells the threads that watch to stop.
