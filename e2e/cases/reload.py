@@ -7,16 +7,15 @@ import os
 import pickle
 import random
 import re
-import signal
+import resource
 import socket
-import struct
 import threading
 import time
 
 from fixtures import sockets
-from fixtures.harness import LIMIT, Ran, Settings, run
+from fixtures.harness import LIMIT, Ran, Settings, held, run
 from fixtures.log import Log
-from fixtures.running import WithRelays, frame
+from fixtures.running import Relay, WithRelays, frame
 from fixtures.stores import Store, free_ports
 
 ALL = "[all]\ndefault = true\ndestinations = {}\n"
@@ -248,8 +247,6 @@ class Changes(Reloads):
         rules = self.write("start-rules.conf", ALL.format(names[0]))
         *listening, admin = free_ports(4)
         self.write("start.conf", self.configuration(names[:1], listening))
-        from fixtures.harness import held
-        from fixtures.running import Relay
         words = ["run", "--config", config, "--rules", rules, "--admin", str(admin)]
         with held(words, bufsize=0) as child:
             relay = Relay(child, *listening, admin)
@@ -375,7 +372,6 @@ class Refusals(Reloads):
             relay.store, relay.sent = store, 0
             good = self.files(relay, dests)
             bad = self.write("bad.conf", "[relay]\nDESTINATIONS = a:b\n")
-            refused = Ran(1, b"", b"relayd: config: DESTINATIONS: BadPort\n")
             ran = self.reload(relay, "--config", bad)
             self.assertEqual((ran.status, ran.out), (1, b""))
             self.assertTrue(ran.err.startswith(b"relayd: config: "), ran)
@@ -394,8 +390,6 @@ class Refusals(Reloads):
             self.assertEqual(self.reload(relay, *good), RELOADED)
             self.refuses(relay, ran, "--config", bad)
             self.stops(relay)
-        self.assertNotIn(b"bad.conf", b"".join(relay.log.lines))
-        del refused
 
     def test_no_relay(self):
         port, = free_ports(1)
@@ -425,7 +419,6 @@ class Refusals(Reloads):
 
     def test_out_of_memory(self):
         """A configuration for which there is no memory is refused, and the relay goes on."""
-        import resource
         store, = self.stores(1)
         dests = [f"127.0.0.1:{store.port}"]
 

@@ -54,8 +54,10 @@ impl HandedStreams {
         }
     }
 
-    /// Takes all connections, in the order of their tokens. The receiver has ended.
-    pub fn take(&self, alloc: Global) -> Vec<HandedStream> {
+    /// Takes all connections, in the order of their tokens, for the receiver of the next run, which hands none over before
+    /// [`HandedStreams::open`]. The receiver before has ended.
+    pub(crate) fn take(&self, alloc: Global) -> Vec<HandedStream> {
+        self.is_open.store(false, Ordering::SeqCst);
         match self.streams.try_lock() {
             Some(mut streams) => mem::replace(&mut *streams, Vec::new(alloc)),
             None => Vec::new(alloc),

@@ -19,6 +19,11 @@ use Rattle.relay_run.specs.Closing.{closing_line, closing_status, input_fault, o
 abbrev pub ready_line : List ℕ
 ready_line = codes "ready\n"
 
+-- what a run says once all its threads have begun: that they are ready, if no run was before it
+abbrev pub opening : (is_first : Bool) → List ℕ
+opening true = ready_line
+opening false = []
+
 -- all that a run writes which settles so
 abbrev pub run_text : Result Settled SettleFault → List ℕ
 run_text settled = ready_line ++ closing_line settled
@@ -61,11 +66,11 @@ is_output_fault Output = true
 is_output_fault NoMemory = true
 is_output_fault fault = false
 
--- what the first thread wrote while the others ran: that all are ready, or a first part of it
-abbrev pub Served : (before after : Option (List ℕ)) → Result (Unit {0}) RelayFault → Type 0
-Served before after (Ok done) = Appends before after ready_line
-Served before after (Err fault) =
-    (is_output_fault fault ≡ true) × GrowsByPart before after ready_line
+-- what the first thread wrote while the others ran: its opening, or a first part of it
+abbrev pub Served : (opening : List ℕ) → (before after : Option (List ℕ)) → Result (Unit {0}) RelayFault → Type 0
+Served opening before after (Ok done) = Appends before after opening
+Served opening before after (Err fault) =
+    (is_output_fault fault ≡ true) × GrowsByPart before after opening
 
 -- the fault of some threads
 abbrev pub IsThreadFault : Option RelayFault → Type 0
@@ -105,6 +110,27 @@ pub data RunFails (before after : Option (List ℕ)) (fault : RelayFault) : Type
       → (receivers senders : List (Option ReadinessFault))
       → thread_fault receivers senders ≡ Some fault
       → Appends before after (run_text settled) → RunFails before after fault
+
+-- ---- one of several runs of a process
+
+-- the last run ends with a status: it has written its opening and how it settled, and the status is that of the same settling
+pub record LastRunEnds (is_first : Bool) (before after : Option (List ℕ)) (status : Status) : Type 0 where
+  pub settled : Result Settled SettleFault
+  pub wrote : Appends before after (opening is_first ++ closing_line settled)
+  pub says : status ≡ closing_status settled
+
+-- a run ends with a fault: before its opening, with a first part of what was due written, or with the fault of a thread, after it
+-- has written its opening and how it settled
+pub data OneRunFails (is_first : Bool) (before after : Option (List ℕ)) (fault : RelayFault) : Type 0 where
+  AtStart : is_start_fault fault ≡ true → Keeps before after → OneRunFails is_first before after fault
+  AtLines : (settled : Result Settled SettleFault) → is_output_fault fault ≡ true
+      → GrowsByPart before after (opening is_first ++ closing_line settled)
+      → OneRunFails is_first before after fault
+  OfThread : (settled : Result Settled SettleFault)
+      → (receivers senders : List (Option ReadinessFault))
+      → thread_fault receivers senders ≡ Some fault
+      → Appends before after (opening is_first ++ closing_line settled)
+      → OneRunFails is_first before after fault
 
 -- ---- a run of files
 

@@ -1,6 +1,10 @@
 //! The admin port: how its commands are answered, and when the run ends.
 
-ghost use Rattle.std.specs.Prelude.{◌≡◌, length};
+ghost use Rattle.std.specs.Prelude.{◌≡◌, length, IfErr, OnOk};
+ghost use Rattle.std.specs.Option.{is_none};
+ghost use Rattle.std.specs.Io.KnownBytes.{Appends};
+ghost use Rattle.relay_files.specs.Output.{GrowsByPart};
+ghost use Rattle.relay_run.specs.Running.{opening};
 
 use crate::ended_run::EndedRecord;
 use crate::first_thread::FirstThread;
@@ -113,7 +117,13 @@ impl RunBefore {
 
 impl<'p, B: Set, R: RelayRuntime, W: Write, F: ReloadSource, K: Recorder> AdminPort<'p, B, R, W, F, K> {
     /// Says that the relay is ready: to the output, or, if a run was before, to the connection that has asked for this one.
-    fn say_ready(&mut self) -> Result<(), RelayFault> {
+    fn say_ready(&mut self) -> Result<(), RelayFault>
+        ensures ok { OnOk result (Appends (W.contents self.old.output.now)
+            (W.contents self.new.output.now) (opening (is_none self.old.before.waiting))) }
+        ensures err { IfErr result (λ fault. (fault ≡ RelayFault.Output)
+            × GrowsByPart (W.contents self.old.output.now) (W.contents self.new.output.now)
+            (opening (is_none self.old.before.waiting))) }
+    {
         match self.before.waiting.take() {
             Some(connection) => {
                 let millis = SystemTimes::since(self.rt, self.relay.began).millis();
@@ -199,6 +209,8 @@ impl<B: Set, R: RelayRuntime, W: Write, F: ReloadSource, K: Recorder> FirstThrea
     ghost written = { λ port. W.contents port.output.now };
 
     ghost which = { λ port. port.output.ghost_name };
+
+    ghost opening = { λ port. opening (is_none port.before.waiting) };
 
     fn serve(&mut self, _rt: &R, alloc: Global) -> Result<(), RelayFault> {
         self.say_ready()?;

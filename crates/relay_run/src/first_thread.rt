@@ -3,7 +3,7 @@
 ghost use Rattle.std.specs.Prelude.{◌≡◌, IfErr, OnOk};
 ghost use Rattle.std.specs.Io.KnownBytes.{Appends};
 ghost use Rattle.relay_files.specs.Output.{GrowsByPart};
-ghost use Rattle.relay_run.specs.Running.{ready_line, Served};
+ghost use Rattle.relay_run.specs.Running.{Served};
 
 use relay_files::RelayFault;
 use std::alloc::Global;
@@ -14,8 +14,10 @@ use std::sync::Wait;
 pub(crate) trait FirstThread<R: Wait + Clock> {
     ghost use Rattle.std.specs.Prelude.{ℕ, List, Option};
 
-    // What its output has written, if that is known, and which output it is.
+    // What its output has written, if that is known, which output it is, and what it says at its beginning.
     ghost written: { Self → Option (List ℕ) };
+
+    ghost opening: { Self → List ℕ };
 
     ghost which: { Self → ℕ };
 
@@ -23,9 +25,10 @@ pub(crate) trait FirstThread<R: Wait + Clock> {
     /// follow.
     fn serve(&mut self, rt: &R, alloc: Global) -> Result<(), RelayFault>
         ensures same { which self.new ≡ which self.old }
-        ensures ok { OnOk result (Appends (written self.old) (written self.new) ready_line) }
+        ensures ok { OnOk result
+            (Appends (written self.old) (written self.new) (opening self.old)) }
         ensures err { IfErr result (λ fault. (fault ≡ RelayFault.Output)
-            × GrowsByPart (written self.old) (written self.new) ready_line) };
+            × GrowsByPart (written self.old) (written self.new) (opening self.old)) };
 
     /// Whether another run follows this one, now that it has served.
     fn is_followed(&self) -> bool;
@@ -60,7 +63,7 @@ pub(crate) fn serve_if<R: Wait + Clock, M: FirstThread<R>>(
     first: &mut M,
 ) -> Result<(), RelayFault>
     ensures same { M.which first.new ≡ M.which first.old }
-    ensures served { Served (M.written first.old) (M.written first.new) result }
+    ensures served { Served (M.opening first.old) (M.written first.old) (M.written first.new) result }
 {
     if are_begun {
         first.serve(rt, alloc)

@@ -7,9 +7,11 @@
 //! A reload ends a run, and begins another in the same process, over the same sockets: `run_all` is the loop. `prepared_by` makes the
 //! next run ready while the one before goes on; `ended_of` takes that apart, and `start_after` has what the next begins with.
 
-ghost use Rattle.std.specs.Prelude.{◌≡◌, ◌≤◌, length, IfOk, IfErr};
+ghost use Rattle.std.specs.Prelude.{◌≡◌, ◌==◌, ◌≤◌, true, length, IfOk, IfErr};
+ghost use Rattle.std.specs.Io.KnownBytes.{Appends, Keeps};
 ghost use Rattle.relay_files.specs.Files.{AllReadAs};
-ghost use Rattle.relay_run.specs.Running.{RunEnds, RunFails, EndsWithStatus, EndsWithFault};
+ghost use Rattle.relay_run.specs.Running.{RunEnds, RunFails, EndsWithStatus, EndsWithFault, LastRunEnds, OneRunFails, opening, is_start_fault};
+ghost use Rattle.relay_run.specs.RunEnd.{IfStopped, IfFollowed};
 
 use crate::admin::RunBefore;
 use crate::closing::write_end;
@@ -153,7 +155,10 @@ fn run_all<
     log: Option<L>,
     recorder: Option<K>,
     files: &F,
-) -> Result<Status, RelayFault> {
+) -> Result<Status, RelayFault>
+    ensures ok { IfOk result (RunEnds (W.contents output.old) (W.contents output.new)) }
+    ensures err { IfErr result (RunFails (W.contents output.old) (W.contents output.new)) }
+{
     let mut recorder = recorder;
     let mut next = NextRun {
         start,
@@ -186,7 +191,15 @@ fn one_run<
     output: &mut W,
     recorder: &mut Option<K>,
     files: &F,
-) -> Result<RunEnd<L>, RelayFault> {
+) -> Result<RunEnd<L>, RelayFault>
+    ensures stopped { IfOk result (λ end. IfStopped end (λ status.
+        LastRunEnds (next.number == 1) (W.contents output.old) (W.contents output.new) status)) }
+    ensures followed { IfOk result (λ end. IfFollowed end (λ following.
+        Appends (W.contents output.old) (W.contents output.new) (opening (next.number == 1))
+        × ((following.number == 1) ≡ false))) }
+    ensures err { IfErr result
+        (OneRunFails (next.number == 1) (W.contents output.old) (W.contents output.new)) }
+{
     run_relay::<Brand, R, W, L, K, F>(rt, alloc, next, process, output, recorder, files)
 }
 
@@ -213,6 +226,13 @@ fn run_relay<
     requires size { next.start.shape.size ≡ B.size }
     requires receivers { next.start.shape.receivers ≡ B.receivers }
     requires senders { next.start.shape.senders ≡ B.senders }
+    ensures stopped { IfOk result (λ end. IfStopped end (λ status.
+        LastRunEnds (next.number == 1) (W.contents output.old) (W.contents output.new) status)) }
+    ensures followed { IfOk result (λ end. IfFollowed end (λ following.
+        Appends (W.contents output.old) (W.contents output.new) (opening (next.number == 1))
+        × ((following.number == 1) ≡ false))) }
+    ensures err { IfErr result
+        (OneRunFails (next.number == 1) (W.contents output.old) (W.contents output.new)) }
 {
     let NextRun {
         start,
@@ -265,8 +285,12 @@ fn stop<B: Set, W: Write, L: Drop, K: Recorder>(
     output: &mut W,
     recorder: &mut Option<K>,
 ) -> Result<RunEnd<L>, RelayFault>
-    ensures ok { IfOk result (λ _. RunEnds (W.contents output.old) (W.contents output.new)) }
-    ensures err { IfErr result (RunFails (W.contents output.old) (W.contents output.new)) }
+    ensures stopped { IfOk result (λ end. IfStopped end (λ status.
+        (settled : Result Settled SettleFault)
+        × Appends (W.contents output.old) (W.contents output.new) (closing_line settled)
+        × (status ≡ closing_status settled))) }
+    ensures err { IfErr result (λ fault. (settled : Result Settled SettleFault)
+        × ClosesWith (W.contents output.old) (W.contents output.new) settled left.records.fault fault) }
 {
     let mut relay = relay;
     let records = &left.records;
@@ -296,7 +320,12 @@ fn follow<B: Set, R: RelayRuntime, L: Drop>(
     ports: FirstPorts,
     process: &Process<'_>,
     number: u64,
-) -> Result<RunEnd<L>, RelayFault> {
+) -> Result<RunEnd<L>, RelayFault>
+    ensures followed { IfOk result (λ end. IfFollowed end (λ following.
+        (following.number == 1) ≡ false)) }
+    ensures never_stopped { IfOk result (λ end. IfStopped end (λ _. ⊥)) }
+    ensures err { IfErr result (λ fault. fault ≡ RelayFault.NoMemory) }
+{
     let RunLeft {
         records,
         log,

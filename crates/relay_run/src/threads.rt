@@ -73,7 +73,7 @@ pub(crate) fn run_threads<
     first: M,
 ) -> (ThreadEnds<O>, M)
     ensures same { M.which result.1 ≡ M.which first }
-    ensures served { Served (M.written first) (M.written result.1) result.0.served }
+    ensures served { Served (M.opening first) (M.written first) (M.written result.1) result.0.served }
 {
     let link = SignalLink { signals };
     thread::scope(
@@ -83,7 +83,7 @@ pub(crate) fn run_threads<
             requires { IsSync R.row × IsSend J.row × IsSend K.row × IsSend G.row × IsSend L.row
                 × IsSend V.row × IsSend O.row }
             ensures same { M.which result.1 ≡ M.which first }
-            ensures served { Served (M.written first) (M.written result.1) result.0.served }
+            ensures served { Served (M.opening first) (M.written first) (M.written result.1) result.0.served }
         {
             let mut first = first;
             let ends = run_in_scope(scope, rt, alloc, jobs, link, &mut first);
@@ -113,7 +113,7 @@ fn run_in_scope<
     first: &mut M,
 ) -> ThreadEnds<O>
     ensures same { M.which first.new ≡ M.which first.old }
-    ensures served { Served (M.written first.old) (M.written first.new) result.served }
+    ensures served { Served (M.opening first.old) (M.written first.old) (M.written first.new) result.served }
 {
     let started = start_all(scope, rt, alloc, jobs, link);
     let are_begun = started.wait_for_begun(rt, link.signals);
