@@ -81,14 +81,7 @@ pub fn stop_and_wait<R: Net + Clock, W: Write>(
         return Err(AdminFault::CannotConnect);
     };
     let stop = AdminCommand::Stop;
-    let asked = exchange(
-        rt,
-        alloc,
-        &mut stream,
-        stop,
-        stop.line(),
-        ANSWER_TIMEOUT_MS,
-    );
+    let asked = exchange(rt, alloc, &mut stream, stop, stop.line(), ANSWER_TIMEOUT_MS);
     drop(stream);
     let ended = match asked {
         Ok(answer) => write_and_wait(answer, &mut waiting, output),

@@ -26,4 +26,6 @@ pub use admin_command::{AdminCommand, LONGEST_COMMAND, STOPPING, UNKNOWN_COMMAND
 pub use admin_fault::AdminFault;
 pub use client::{ask, ask_reload, stop_and_wait};
 pub use reload_answer::{RELOADED, Refusal, ReloadAnswer, reload_answer_in};
-pub use reload_request::{LONGEST_REQUEST, ReloadFiles, can_be_named, reload_files_in, reload_request};
+pub use reload_request::{
+    LONGEST_REQUEST, ReloadFiles, can_be_named, reload_files_in, reload_request,
+};

@@ -15,8 +15,11 @@ pub const LONGEST_REQUEST: usize = 16_384;
 
 /// The words before each value of a request, a line each.
 const CONFIG: &str = "config ";
+
 const RULES: &str = "rules ";
+
 const REWRITE: &str = "rewrite ";
+
 const LONGEST_NAME: &str = "longest-name ";
 
 /// The files that a reload names, by paths from the root on, and the limit on names that comes with them.
@@ -63,10 +66,7 @@ fn value_in<'a>(words: &[u8], sent: &'a [u8]) -> Option<&'a [u8]>
 
 /// The text that asks for a reload by these files, or by those that the run began with. Refuses if out of memory. The values
 /// have no byte 10 ([`can_be_named`]).
-pub fn reload_request(
-    alloc: Global,
-    files: Option<ReloadFiles<'_>>,
-) -> Result<String, NoMemory> {
+pub fn reload_request(alloc: Global, files: Option<ReloadFiles<'_>>) -> Result<String, NoMemory> {
     let mut text = String::from_str(alloc, "reload\n")?;
     if let Some(files) = files {
         push_value(&mut text, CONFIG, Some(files.config))?;

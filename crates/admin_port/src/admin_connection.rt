@@ -99,7 +99,12 @@ impl Answer {
 
 impl AdminConnection {
     /// A connection of a number, which was taken at these milliseconds.
-    pub(crate) fn new(alloc: Global, stream: TcpStream, number: u64, millis: u64) -> AdminConnection {
+    pub(crate) fn new(
+        alloc: Global,
+        stream: TcpStream,
+        number: u64,
+        millis: u64,
+    ) -> AdminConnection {
         AdminConnection {
             stream,
             stage: AdminStage::Command,

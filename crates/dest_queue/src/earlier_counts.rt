@@ -59,10 +59,7 @@ impl EarlierCounts {
             offered: self.offered.saturating_add(counts.offered),
             kept: self.kept.saturating_add(counts.kept),
             dropped: self.dropped.saturating_add(counts.dropped),
-            taken: self
-                .kept
-                .saturating_sub(rest)
-                .saturating_add(counts.taken),
+            taken: self.kept.saturating_sub(rest).saturating_add(counts.taken),
             queued: rest.saturating_add(counts.queued),
             seals: counts.seals,
         }

@@ -3,7 +3,7 @@
 use crate::marks::{print_answer, print_text};
 use finished_run::NoRecorder;
 use relay_files::{RelayFault, RunConfiguration, Source, Sources, Status};
-use relay_run::{RefusedReload, ReloadSource, RelayRuntime, RunOptions};
+use relay_run::{RefusedReload, RelayRuntime, ReloadSource, RunOptions};
 use std::alloc::Global;
 use std::io::{Read, Sink, Write};
 use std::net::{

@@ -63,8 +63,14 @@ fn push_dest_end_words(text: &mut String, end: DestEnd) -> Result<(), AllocError
         DestEnd::CannotWrite => text.push_str("spool: cannot write"),
         DestEnd::Spooled { datapoints } => write!(text, "stopped, {datapoints} datapoints spooled"),
         DestEnd::Unsent { datapoints } => write!(text, "stopped, {datapoints} datapoints not sent"),
-        DestEnd::GoneSpooled { datapoints } => write!(text, "gone, {datapoints} datapoints spooled"),
-        DestEnd::GoneUnsent { datapoints } => write!(text, "gone, {datapoints} datapoints not sent"),
+        DestEnd::GoneSpooled { datapoints } => write!(
+            text,
+            "gone, {datapoints} datapoints spooled"
+        ),
+        DestEnd::GoneUnsent { datapoints } => write!(
+            text,
+            "gone, {datapoints} datapoints not sent"
+        ),
     }
 }
 

@@ -86,7 +86,8 @@ impl ReceiverNotes {
 
     /// Notes what it has counted in this run.
     pub fn note_counts(&self, counts: ReceiverCounts) {
-        self.counts.store(counts.behind(&self.earlier_counts.load()));
+        self.counts
+            .store(counts.behind(&self.earlier_counts.load()));
     }
 
     /// The counts that it noted last; each by itself, since it may note others at the same time.
@@ -96,7 +97,8 @@ impl ReceiverNotes {
 
     /// Notes what it has lost or closed, and how many connections it has taken, in this run.
     pub fn note_losses(&self, losses: LossCounts, taken: u64) {
-        self.losses.store(losses.behind(&self.earlier_losses.counts()));
+        self.losses
+            .store(losses.behind(&self.earlier_losses.counts()));
         let earlier = self.earlier_taken.load(Ordering::SeqCst);
         self.taken
             .store(earlier.saturating_add(taken), Ordering::SeqCst);

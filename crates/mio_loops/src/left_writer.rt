@@ -2,9 +2,9 @@
 
 ghost use Rattle.std.specs.Prelude.{◌≡◌, ◌≤◌, []};
 
-use relay_base::DestId;
 use dest_queue::Hand;
 use dest_writer::Writer;
+use relay_base::DestId;
 
 /// What a loop leaves of a destination that goes on elsewhere: its writer, with the batch in hand, the hand that was lent for
 /// batches of at most `limit` datapoints, which is empty, and the connection, if there is one.

@@ -2,8 +2,8 @@
 
 use crate::connection_room::ConnectionRoom;
 use mio::net::TcpListener;
-use std::sync::Arc;
 use std::io::ErrorKind;
+use std::sync::Arc;
 use std::{io, net};
 
 /// A port at which connections arrive, with the room for them, if it is limited.
@@ -38,6 +38,14 @@ impl StreamPort {
     /// the system.
     pub fn set_room(&mut self, room: Arc<ConnectionRoom>) {
         self.room = Some(room);
+    }
+
+    /// The room, if it is limited.
+    pub fn room(&self) -> Option<&ConnectionRoom> {
+        match &self.room {
+            Some(room) => Some(&**room),
+            None => None,
+        }
     }
 
     /// The listener, and the room, if it is limited.

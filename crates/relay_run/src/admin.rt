@@ -115,7 +115,14 @@ impl RunBefore {
     }
 }
 
-impl<'p, B: Set, R: RelayRuntime, W: Write, F: ReloadSource, K: Recorder> AdminPort<'p, B, R, W, F, K> {
+impl<'p, B: Set, R: RelayRuntime, W: Write, F: ReloadSource, K: Recorder> AdminPort<
+    'p,
+    B,
+    R,
+    W,
+    F,
+    K,
+> {
     /// Says that the relay is ready: to the output, or, if a run was before, to the connection that has asked for this one.
     fn say_ready(&mut self) -> Result<(), RelayFault>
         ensures ok { OnOk result (Appends (W.contents self.old.output.now)

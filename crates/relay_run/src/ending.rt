@@ -103,10 +103,7 @@ fn end_server<R: Threads + Wait>(
 }
 
 /// Joins the thread of a list that has one at most. Returns how it ended.
-fn join_last<R: Threads + Wait, T: Send + Drop>(
-    rt: &R,
-    children: Vec<JoinHandle<T>>,
-) -> Option<T> {
+fn join_last<R: Threads + Wait, T: Send + Drop>(rt: &R, children: Vec<JoinHandle<T>>) -> Option<T> {
     let mut end = None;
     for child in children {
         end = Some(child.join(rt));

@@ -52,8 +52,8 @@ mod thread_records;
 mod threads;
 
 pub use descriptors::{descriptors_needed, free_descriptors};
-pub use reload_source::{RefusedReload, ReloadSource};
 pub use options::{RunOptions, StatusOptions};
+pub use reload_source::{RefusedReload, ReloadSource};
 pub use run_command::run;
 pub use runtime::{RelayRuntime, SystemTables};
 pub use spool_folder::SpoolFolder;

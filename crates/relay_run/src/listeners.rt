@@ -78,6 +78,19 @@ impl FirstPorts {
         clones_of(alloc, self.kept.as_slice())
     }
 
+    /// So many stores had a descriptor, and from now on so many have: producers get the others, if their number is limited.
+    pub(crate) fn keep_for_stores(&self, before: usize, now: usize) {
+        // All ports share one room.
+        for port in &self.kept {
+            if let BoundPort::Lines(port, _) | BoundPort::Pickles(port) = port {
+                if let Some(room) = port.room() {
+                    room.keep_for_others(before, now);
+                    return;
+                }
+            }
+        }
+    }
+
     /// The ports of receivers end with those of the run.
     pub(crate) fn shut(&mut self) {
         self.kept.clear();
@@ -165,7 +178,10 @@ fn bind_receivers<R: Net>(
     let port = settings.udp_receiver_port();
     if settings.enable_udp_listener() && port > 0 {
         let socket = bind_datagrams(rt, settings.udp_receiver_interface(), port)?;
-        add(&mut bound, BoundPort::Datagrams(net::UdpSocket::from(socket)))?;
+        add(
+            &mut bound,
+            BoundPort::Datagrams(net::UdpSocket::from(socket)),
+        )?;
     }
     Ok(bound)
 }

@@ -61,7 +61,12 @@ pub(crate) fn start_after(
         server.keep_dests(alloc, kept.as_slice());
     }
     let mut found = files.dests;
-    let inherited = inherit(alloc, ended, places, &kept, &returned, &mut found, logged, news);
+    let stores_before = ended.lefts.len().saturating_add(ended.gone.dests.len());
+    let inherited = inherit(
+        alloc, ended, places, &kept, &returned, &mut found, logged, news,
+    );
+    let stores = kept.len().saturating_add(inherited.gone.dests.len());
+    first.keep_for_stores(stores_before, stores);
     let shape = process.shape(configuration.settings(), receivers.len());
     Ok(Start {
         configuration,
@@ -163,7 +168,12 @@ fn inherit(
             Some(files) => files.take(),
             None => None,
         };
-        let left = left_for(ended, kept[place], returned.get(place).copied().flatten(), found);
+        let left = left_for(
+            ended,
+            kept[place],
+            returned.get(place).copied().flatten(),
+            found,
+        );
         let (queued, in_hand) = left.counts();
         let rest = RestNotes::new();
         rest.note(queued, in_hand);

@@ -66,7 +66,15 @@ pub(crate) fn prepared_by<B: Set, R: RelayRuntime, F: ReloadSource>(
             return Err(refused_for(alloc, fault));
         }
     };
-    match with_room(rt, alloc, relay, configuration, receivers, folder, connection) {
+    match with_room(
+        rt,
+        alloc,
+        relay,
+        configuration,
+        receivers,
+        folder,
+        connection,
+    ) {
         Ok(prepared) => Ok(prepared),
         Err(NoMemory) => Err(RefusedReload::no_memory(alloc)),
     }
@@ -140,10 +148,7 @@ fn reload_line(
         rules: !old.has_same_rules(new),
         rewriting: !old.has_same_rewriting(new),
     };
-    let (before, after) = (
-        old.settings().destinations(),
-        new.settings().destinations(),
-    );
+    let (before, after) = (old.settings().destinations(), new.settings().destinations());
     push_reload_line(&mut line, before, after, others)?;
     Ok(line)
 }

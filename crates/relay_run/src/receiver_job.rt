@@ -15,8 +15,8 @@ use mio::net::UdpSocket;
 use mio_loops::{InputLog, ReadinessFault, SystemTimes};
 use reader_core::ReaderKind;
 use receivers::{
-    DatagramSocket, HandedStreams, ReceiverControl, ReceiverRecord, StreamListener, receive_datagrams,
-    receive_streams,
+    DatagramSocket, HandedStreams, ReceiverControl, ReceiverRecord, StreamListener,
+    receive_datagrams, receive_streams,
 };
 use relay_base::NoMemory;
 use relay_files::{ListenRole, RelayFault, RunConfiguration};
@@ -63,7 +63,11 @@ impl Inlet {
                     Err(fault) => Err(listen_fault(ListenRole::Pickle, fault)),
                 }
             }
-            BoundPort::Datagrams(socket) => match datagrams_of(rt, alloc, UdpSocket::from_std(socket)) {
+            BoundPort::Datagrams(socket) => match datagrams_of(
+                rt,
+                alloc,
+                UdpSocket::from_std(socket),
+            ) {
                 Ok(socket) => Ok(Inlet::Datagrams(socket)),
                 Err(fault) => Err(listen_fault(ListenRole::Udp, fault)),
             },
@@ -347,9 +351,7 @@ fn receive_connections<'d, B: Set, R: Wait + Clock>(
 {
     let listener = SharedListener::new(listener, share, BeginNote::new(signals));
     let stop = signals.receivers();
-    receive_streams(
-        rt, alloc, listener, kind, receiver, plan, door, times, stop,
-    )
+    receive_streams(rt, alloc, listener, kind, receiver, plan, door, times, stop)
 }
 
 /// The log of readers of a kind, if the run is recorded.

@@ -139,7 +139,15 @@ impl<B: Set> Relay<B> {
         };
         match Queues::<B>::new(alloc, blank, NAME, dests, size, receivers, senders) {
             Ok(opened) => Ok(open_relay(
-                configuration, shape, opened, shared, inherited, ports, log, process, is_first,
+                configuration,
+                shape,
+                opened,
+                shared,
+                inherited,
+                ports,
+                log,
+                process,
+                is_first,
             )),
             Err(_) => {
                 drop(configuration);

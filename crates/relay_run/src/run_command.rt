@@ -26,7 +26,7 @@ use crate::reload_source::ReloadSource;
 use crate::running::{FirstWork, RanThreads, run_until_ended};
 use crate::runtime::RelayRuntime;
 use crate::spool_folder::SpoolFolder;
-use crate::spool_left::{spool_slots, spool_lefts};
+use crate::spool_left::{spool_lefts, spool_slots};
 use crate::start::{Process, Start};
 use crate::thread_records::RunLeft;
 use finished_run::Recorder;
@@ -140,13 +140,7 @@ enum RunEnd<L> {
 }
 
 /// Makes one run after another until one is stopped.
-fn run_all<
-    R: RelayRuntime,
-    W: Write,
-    L: Write + Send + Drop,
-    K: Recorder + Drop,
-    F: ReloadSource,
->(
+fn run_all<R: RelayRuntime, W: Write, L: Write + Send + Drop, K: Recorder + Drop, F: ReloadSource>(
     rt: &R,
     alloc: Global,
     start: Start,
@@ -177,13 +171,7 @@ fn run_all<
 }
 
 /// Makes a run, over queues of its own.
-fn one_run<
-    R: RelayRuntime,
-    W: Write,
-    L: Write + Send + Drop,
-    K: Recorder + Drop,
-    F: ReloadSource,
->(
+fn one_run<R: RelayRuntime, W: Write, L: Write + Send + Drop, K: Recorder + Drop, F: ReloadSource>(
     rt: &R,
     alloc: Global,
     next: NextRun<L>,

@@ -4,9 +4,9 @@ ghost use Rattle.std.specs.Prelude.{◌≡◌, ◌≤◌, ◌<◌, true, length,
 ghost use Rattle.relay_run.specs.Running.{is_start_fault};
 
 use crate::closing::output_fault;
+use crate::rest_connector::SenderRests;
 use crate::runtime::RelayRuntime;
 use crate::sender_job::SenderJob;
-use crate::rest_connector::SenderRests;
 use crate::spool_connector::{SenderSpool, SpoolSink};
 use crate::thread_jobs::JobMaker;
 use locked_queues::{Outlet, OutletSeat, Set};

@@ -339,11 +339,7 @@ impl<'n, 's, N: Connect + Drop, D: SpoolDisk + Copy + Drop> Connect
         self.connector.has_closed(dest)
     }
 
-    fn take_back(
-        &mut self,
-        dest: DestId,
-        sink: SpoolSink<'n, N::Sink, D>,
-    ) -> Option<KeptSocket> {
+    fn take_back(&mut self, dest: DestId, sink: SpoolSink<'n, N::Sink, D>) -> Option<KeptSocket> {
         match sink {
             SpoolSink::Store(sink) => self.connector.take_back(dest, sink),
             SpoolSink::File(_) => None,

@@ -298,8 +298,7 @@ impl<'x, B: Set, L: Write + Drop> LogJob<'x, B, L> {
     }
 }
 
-impl<'x, B: Set, L: Write + Drop, R: Wait + Clock> ThreadWork<R, LogEnd<L>>
-    for LogJob<'x, B, L> {
+impl<'x, B: Set, L: Write + Drop, R: Wait + Clock> ThreadWork<R, LogEnd<L>> for LogJob<'x, B, L> {
     fn name(&self, alloc: Global) -> Result<String, AllocError> {
         String::from_str(alloc, "log")
     }
@@ -316,7 +315,9 @@ impl<'x, B: Set, L: Write + Drop, R: Wait + Clock> ThreadWork<R, LogEnd<L>>
             job.write_end(rt, alloc, signals);
         }
         let LogJob {
-            receivers, output, ..
+            receivers,
+            output,
+            ..
         } = job;
         LogEnd { output, receivers }
     }

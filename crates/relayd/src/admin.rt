@@ -1,8 +1,8 @@
 //! The commands for a running relay: `report`, `stop` and `reload`.
 
 use admin_client::{
-    AdminCommand, AdminFault, Refusal, ReloadAnswer, ReloadFiles, ask, ask_reload, reload_answer_in,
-    reload_request, stop_and_wait,
+    AdminCommand, AdminFault, Refusal, ReloadAnswer, ReloadFiles, ask, ask_reload,
+    reload_answer_in, reload_request, stop_and_wait,
 };
 use command_line::{Explain, Paths};
 use relay_base::NoMemory;

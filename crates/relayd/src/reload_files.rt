@@ -88,12 +88,7 @@ fn read_at(
 }
 
 /// The refusal for a fault of files, with the notes on it.
-fn refused_for(
-    rt: &HostRuntime,
-    alloc: Global,
-    paths: &Paths,
-    fault: RelayFault,
-) -> RefusedReload {
+fn refused_for(rt: &HostRuntime, alloc: Global, paths: &Paths, fault: RelayFault) -> RefusedReload {
     let refusal = match fault.status() {
         Status::NoMemory => return RefusedReload::no_memory(alloc),
         Status::DeviceFault => Refusal::Device,

@@ -22,11 +22,7 @@ pub struct Unsent<'x, B: Set> {
 
 impl<'x, B: Set> Unsent<'x, B> {
     /// What remains to be sent to these destinations, whose connections count what they took.
-    pub fn new(
-        queues: &'x Queues<B>,
-        noted: DestSources<'x>,
-        end: &'x EndState,
-    ) -> Unsent<'x, B>
+    pub fn new(queues: &'x Queues<B>, noted: DestSources<'x>, end: &'x EndState) -> Unsent<'x, B>
         requires few { length noted.dests.now ≤ B.dests }
     {
         Unsent { queues, noted, end }

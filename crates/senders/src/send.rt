@@ -8,9 +8,7 @@ use crate::connect::Connect;
 use crate::counted_supply::CountedSupply;
 use crate::sender_record::SenderRecord;
 use crate::turn::take_turn;
-use mio_loops::{
-    LeftTaker, LeftWriter, ReadinessFault, StopFlag, TimeSource, WriteLog, WriteLoop,
-};
+use mio_loops::{LeftTaker, LeftWriter, ReadinessFault, StopFlag, TimeSource, WriteLog, WriteLoop};
 use queue_records::{MOST_DESTS, Supply};
 use relay_base::{DestId, LARGEST_MESSAGE};
 use std::alloc::Global;

@@ -109,12 +109,7 @@ impl<'g, R: Net + Drop, L: Lookup + Drop> StoreConnector<'g, R, L> {
     /// Takes over the connection of a destination from another sender: it goes on here. `None` if the system does not watch it, or
     /// the destination is not of this sender; the connection is lost then. It counts as made at these milliseconds if nothing was
     /// noted of the destination before.
-    pub fn keep(
-        &mut self,
-        dest: DestId,
-        kept: KeptSocket,
-        millis: u64,
-    ) -> Option<StoreStream<'g>> {
+    pub fn keep(&mut self, dest: DestId, kept: KeptSocket, millis: u64) -> Option<StoreStream<'g>> {
         if let Some(notes) = self.notes.get(dest.0) {
             notes.note_kept(millis);
         }
