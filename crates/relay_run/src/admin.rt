@@ -235,6 +235,10 @@ impl<B: Set, R: RelayRuntime, W: Write, F: ReloadSource, K: Recorder> FirstThrea
         self.next.is_some()
     }
 
+    fn follows(&self) -> bool {
+        !self.relay.is_first
+    }
+
     fn close_receivers(&mut self, rt: &R, alloc: Global) {
         self.ports.shut();
         answer_while_closing(rt, alloc, &mut self.ports.admin, self.relay, self.controls);

@@ -52,7 +52,9 @@ pub(crate) fn end_threads<R: Threads + Wait + Clock, O: Send + Drop, M: FirstThr
         ..
     } = started;
     let is_last = served.is_ok() && !first.is_followed();
-    let server = end_server(rt, signals, servers, first.is_followed());
+    // What a run inherited that could not begin is not lost either.
+    let is_handing = first.is_followed() || served.is_err() && first.follows();
+    let server = end_server(rt, signals, servers, is_handing);
     close_if(rt, alloc, is_last, first);
     signals.stop_receivers();
     first.wake_receivers();
@@ -92,9 +94,9 @@ fn end_server<R: Threads + Wait>(
     rt: &R,
     signals: &Signals,
     servers: Vec<JoinHandle<StatusServer>>,
-    is_followed: bool,
+    is_handing: bool,
 ) -> ServerEnd {
-    if !is_followed {
+    if !is_handing {
         return ServerEnd::Runs(servers);
     }
     signals.begin_handing();

@@ -33,6 +33,9 @@ pub(crate) trait FirstThread<R: Wait + Clock> {
     /// Whether another run follows this one, now that it has served.
     fn is_followed(&self) -> bool;
 
+    /// Whether a run was before this one.
+    fn follows(&self) -> bool;
+
     /// Closes the receivers before they are stopped, so that they read what was sent to them.
     fn close_receivers(&mut self, rt: &R, alloc: Global)
         ensures same { which self.new ≡ which self.old }

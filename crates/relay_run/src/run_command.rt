@@ -15,6 +15,7 @@ ghost use Rattle.relay_run.specs.RunEnd.{IfStopped, IfFollowed};
 
 use crate::admin::RunBefore;
 use crate::closing::write_end;
+use crate::end_room::EndRoom;
 use crate::ended_run::{EndedRun, ended_of};
 use crate::inherited::Inherited;
 use crate::listeners::FirstPorts;
@@ -28,7 +29,7 @@ use crate::runtime::RelayRuntime;
 use crate::spool_folder::SpoolFolder;
 use crate::spool_left::{spool_lefts, spool_slots};
 use crate::start::{Process, Start};
-use crate::thread_records::RunLeft;
+use crate::thread_records::{Records, RunLeft};
 use finished_run::Recorder;
 use locked_queues::Set;
 use mio_loops::{SystemTimes, TimeSource};
@@ -249,12 +250,12 @@ fn run_relay<
         before,
         recorder,
     };
-    let ran = run_until_ended(rt, alloc, &relay, parts, work);
-    let RanThreads { left, next } = match ran {
-        Ok(ran) => ran,
+    let RanThreads { left, next } = run_until_ended(rt, alloc, &relay, parts, work);
+    let left = match left {
+        Ok(left) => left,
         Err(fault) => {
-            spool_failed(rt, alloc, relay, process, is_first);
             drop(ports);
+            spool_failed(rt, alloc, relay, next, process, number);
             return Err(fault);
         }
     };
@@ -332,10 +333,7 @@ fn follow<B: Set, R: RelayRuntime, L: Drop>(
             number: number.saturating_add(1),
         })),
         Err(NoMemory) => {
-            let EndedRun { lefts, gone, .. } = ended;
-            spool_lefts(rt, alloc, lefts, process.file_limit());
-            spool_slots(rt, alloc, &gone.slots, process.file_limit());
-            drop(gone);
+            spool_ended(rt, alloc, ended, process);
             Err(RelayFault::NoMemory)
         }
     }
@@ -379,17 +377,51 @@ fn spool_inherited<R: RelayRuntime>(
     drop(inherited);
 }
 
-/// Writes to files what ended runs left to one that failed, and that it has not sent.
+/// Writes to files what a run held that failed, if it is one of a reload: that before, of which what the threads recorded could not
+/// be kept, or that behind, which could not begin.
 fn spool_failed<B: Set, R: RelayRuntime>(
     rt: &R,
     alloc: Global,
     relay: Relay<B>,
+    next: Option<PreparedRun>,
     process: &Process<'_>,
-    is_first: bool,
+    number: u64,
 ) {
-    if !is_first {
+    let room = match next {
+        Some(PreparedRun { next, room }) => {
+            drop(next);
+            Some(room)
+        }
+        None if relay.is_first => {
+            drop(relay);
+            return;
+        }
+        None => EndRoom::new(alloc, relay.shape.dests).ok(),
+    };
+    let Some(room) = room else {
         spool_slots(rt, alloc, &relay.slots, process.file_limit());
         spool_slots(rt, alloc, &relay.gone.slots, process.file_limit());
-    }
-    drop(relay);
+        drop(relay);
+        return;
+    };
+    spool_ended(
+        rt,
+        alloc,
+        ended_of(alloc, relay, room, number, Records::none(alloc)),
+        process,
+    );
+}
+
+/// Writes to files what an ended run left that no other one can go on with.
+fn spool_ended<R: RelayRuntime>(rt: &R, alloc: Global, ended: EndedRun, process: &Process<'_>) {
+    let EndedRun {
+        record,
+        lefts,
+        gone,
+        ..
+    } = ended;
+    drop(record);
+    spool_lefts(rt, alloc, lefts, process.file_limit());
+    spool_slots(rt, alloc, &gone.slots, process.file_limit());
+    drop(gone);
 }

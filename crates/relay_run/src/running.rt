@@ -38,15 +38,15 @@ pub(crate) struct FirstWork<'p, W, F, K> {
     pub(crate) recorder: &'p mut Option<K>,
 }
 
-/// What a run leaves whose threads have ended, and the one that is to follow, if there is one.
+/// What a run leaves whose threads have ended, or why that is not known, and the run that is to follow, if there is one.
 #[derive(Drop)]
 pub(crate) struct RanThreads<L> {
-    pub(crate) left: RunLeft<L>,
+    pub(crate) left: Result<RunLeft<L>, RelayFault>,
     pub(crate) next: Option<PreparedRun>,
 }
 
 /// Runs the threads of an open relay until it is stopped, or another run is to follow, and they have ended, and returns what they
-/// recorded. Refuses a fault of the start, and then nothing is written.
+/// recorded; or a fault of the start, and then nothing is written.
 pub(crate) fn run_until_ended<
     'x,
     B: Set + Send + Sync,
@@ -61,14 +61,17 @@ pub(crate) fn run_until_ended<
     relay: &'x Relay<B>,
     parts: Parts<B, L>,
     work: FirstWork<'_, W, F, K>,
-) -> Result<RanThreads<L>, RelayFault>
-    ensures fault { IfOk result (λ ran. IsThreadFault ran.left.records.fault) }
+) -> RanThreads<L>
+    ensures fault { IfOk result.left (λ left. IsThreadFault left.records.fault) }
 {
     let made = match jobs_of(rt, alloc, relay, parts) {
         Ok(made) => made,
         Err(fault) => {
             drop(work);
-            return Err(fault);
+            return RanThreads {
+                left: Err(fault),
+                next: None,
+            };
         }
     };
     let ThreadJobs {
@@ -78,12 +81,9 @@ pub(crate) fn run_until_ended<
     } = made;
     let (ends, next) = run_jobs(rt, alloc, relay, jobs, controls.as_slice(), work);
     drop(controls);
-    match records_of(alloc, unused, ends) {
-        Ok(left) => Ok(RanThreads { left, next }),
-        Err(fault) => {
-            drop(next);
-            Err(fault)
-        }
+    RanThreads {
+        left: records_of(alloc, unused, ends),
+        next,
     }
 }
 

@@ -21,6 +21,21 @@ pub(crate) struct Records {
     pub(crate) fault: Option<RelayFault>,
 }
 
+impl Records {
+    /// Nothing is known of what the threads recorded. It takes no memory.
+    pub(crate) fn none(alloc: Global) -> Records {
+        Records {
+            doors: Vec::new(alloc),
+            outlets: Vec::new(alloc),
+            logs: ThreadLogs {
+                fed: Vec::new(alloc),
+                written: Vec::new(alloc),
+            },
+            fault: None,
+        }
+    }
+}
+
 /// What the threads of a run left: what they recorded, the log, if there is one, and the status server.
 #[derive(Drop)]
 pub(crate) struct RunLeft<O> {
