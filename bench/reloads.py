@@ -54,9 +54,9 @@ class HungUp(CarbonCRelay):
 
 
 def memory(relay, key):
-    """A number of the memory of a relay's process, in MB."""
+    """A number of the memory of a relay's process, in MB; 0 of one that has ended."""
     with open(f"/proc/{relay.process.pid}/status", encoding="ascii") as file:
-        return next(int(line.split()[1]) for line in file if line.startswith(key)) / 1_000
+        return next((int(line.split()[1]) for line in file if line.startswith(key)), 0) / 1_000
 
 
 def longest(moments, since):

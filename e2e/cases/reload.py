@@ -195,6 +195,76 @@ class Connections(Reloads):
             self.assertEqual(store.lines(), lines[:100])
             self.stops(relay)
 
+    def test_several_threads(self):
+        """With several receivers of lines and several senders each connection and each store goes on."""
+        stores = self.stores(3)
+        dests = [f"127.0.0.1:{store.port}" for store in stores]
+        options = ("--line-receivers", "3", "--senders", "2")
+        with self.running(dests, options=options) as relay, contextlib.ExitStack() as at_end:
+            producers = [at_end.enter_context(socket.create_connection(("127.0.0.1", relay.line), LIMIT))
+                         for _ in range(12)]
+            kept = [b""] * len(producers)
+            for turn in range(5):
+                for number, producer in enumerate(producers):
+                    text = kept[number] + b"l%d.%d %d 1700000000\n" % (number, turn, turn)
+                    cut = random.randrange(1, len(text))
+                    producer.sendall(text[:cut])
+                    kept[number] = text[cut:]
+                # A destination has another place, and another sender.
+                dests = dests[1:] + dests[:1]
+                self.reloads(relay, dests)
+            for number, producer in enumerate(producers):
+                producer.sendall(kept[number])
+            for store in stores:
+                self.wait_for(lambda: len(store.lines()) == 60, "all lines have come")
+                self.assertEqual(store.connections(), 1)
+                for number in range(len(producers)):
+                    start = b"l%d." % number
+                    self.assertEqual([line for line in store.lines() if line.startswith(start)],
+                                     [b"l%d.%d %d 1700000000" % (number, turn, turn) for turn in range(5)])
+            self.stops(relay)
+
+    def test_an_idle_connection(self):
+        """It is closed as soon as without reloads."""
+        store, = self.stores(1)
+        dests = [f"127.0.0.1:{store.port}"]
+        with self.running(dests, options=("--idle", "2")) as relay:
+            with socket.create_connection(("127.0.0.1", relay.line), LIMIT) as producer:
+                producer.sendall(b"a 1 17")
+                producer.settimeout(0.5)
+                began = time.monotonic()
+                closed = False
+                while not closed and time.monotonic() < began + LIMIT:
+                    self.reloads(relay, dests)
+                    with contextlib.suppress(socket.timeout):
+                        closed = producer.recv(1) == b""
+                self.assertTrue(closed)
+                self.assertGreaterEqual(time.monotonic() - began, 2)
+            self.stops(relay)
+
+    def test_a_drain_after_a_reload(self):
+        """A stop waits for what an ended run left, as for what is queued."""
+        store, = self.stores(1, reads=False, room=4096)
+        dests = [f"127.0.0.1:{store.port}"]
+        with self.running(dests, options=("--drain", FOREVER), MAX_QUEUE_SIZE="100000") as relay:
+            relay.lines(text_of(LONG))
+            self.wait_for(lambda: relay.totals()["kept"] == len(LONG), "all lines are queued")
+            self.reloads(relay, dests, MAX_QUEUE_SIZE="100000")
+            slowly = threading.Event()
+            reader = threading.Thread(target=store.read_slowly, args=(0.05, slowly))
+            reader.start()
+            self.assertEqual(relay.command(b"stop"), b"stopping\n")
+            time.sleep(0.5)
+            self.assertIsNone(relay.child.poll())
+            slowly.set()
+            reader.join(LIMIT)
+            store.read_on()
+            self.assertEqual(relay.child.wait(LIMIT), 0)
+            self.wait_for(lambda: len(store.lines()) == len(LONG), "all lines have come")
+            self.assertEqual(store.lines(), LONG)
+            relay.log.thread.join(LIMIT)
+            self.assertIn(b"relay stopped, 0 datapoints not sent\n", relay.log.lines)
+
     def test_a_spool_that_is_being_sent(self):
         """The file of an earlier run goes on where it was, and what came since is behind it."""
         folder = self.path("spool")

@@ -41,11 +41,8 @@ impl StreamPort {
     }
 
     /// The room, if it is limited.
-    pub fn room(&self) -> Option<&ConnectionRoom> {
-        match &self.room {
-            Some(room) => Some(&**room),
-            None => None,
-        }
+    pub fn room(&self) -> Option<&Arc<ConnectionRoom>> {
+        self.room.as_ref()
     }
 
     /// The listener, and the room, if it is limited.

@@ -7,12 +7,14 @@ use crate::reload_source::{RefusedReload, ReloadSource};
 use crate::runtime::RelayRuntime;
 use crate::spool_folder::{SpoolFolder, open_new_files};
 use admin_client::Refusal;
-use conf_text::{Setting, Settings};
-use config_changes::{OtherChanges, first_fixed_change, kept_places, push_reload_line};
+use conf_text::{Dest, Setting, Settings};
+use config_changes::{
+    OtherChanges, first_fixed_change, kept_places, place_of, push_reload_line,
+};
 use dest_queue::DestQueue;
 use locked_queues::{BlankTotals, Set};
 use queue_records::READERS_EACH;
-use relay_base::{DestId, NoMemory, add};
+use relay_base::{DestId, MOST_DESTINATIONS, NoMemory, add};
 use relay_files::{RelayFault, RunConfiguration};
 use spool::SpoolFiles;
 use std::alloc::Global;
@@ -59,6 +61,11 @@ pub(crate) fn prepared_by<B: Set, R: RelayRuntime, F: ReloadSource>(
         drop(configuration);
         return Err(needs_restart(alloc, setting));
     }
+    if gone_count(relay, &configuration) > MOST_DESTINATIONS {
+        drop(configuration);
+        let text = String::from_str(alloc, "more than 64 destinations that are gone are still sent to\n");
+        return Err(refused(alloc, Refusal::Device, text));
+    }
     let receivers = match ports.for_receivers(alloc) {
         Ok(receivers) => receivers,
         Err(fault) => {
@@ -78,6 +85,24 @@ pub(crate) fn prepared_by<B: Set, R: RelayRuntime, F: ReloadSource>(
         Ok(prepared) => Ok(prepared),
         Err(NoMemory) => Err(RefusedReload::no_memory(alloc)),
     }
+}
+
+/// How many destinations a run by a configuration does not have that this one has, or that are gone already.
+fn gone_count<B: Set>(relay: &Relay<B>, configuration: &RunConfiguration) -> usize {
+    let new = configuration.settings().destinations();
+    let old = relay.configuration.settings().destinations();
+    lacked_by(new, old).saturating_add(lacked_by(new, relay.gone.dests.as_slice()))
+}
+
+/// How many of some destinations a list does not have.
+fn lacked_by(list: &[Dest], dests: &[Dest]) -> usize {
+    let mut count: usize = 0;
+    for dest in dests {
+        if place_of(dest, list).is_none() {
+            count = count.saturating_add(1);
+        }
+    }
+    count
 }
 
 /// A run by a configuration, with what needs memory before the one that runs ends.
