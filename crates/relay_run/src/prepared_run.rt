@@ -8,9 +8,7 @@ use crate::runtime::RelayRuntime;
 use crate::spool_folder::{SpoolFolder, open_new_files};
 use admin_client::Refusal;
 use conf_text::{Dest, Setting, Settings};
-use config_changes::{
-    OtherChanges, first_fixed_change, kept_places, place_of, push_reload_line,
-};
+use config_changes::{OtherChanges, first_fixed_change, kept_places, place_of, push_reload_line};
 use dest_queue::DestQueue;
 use locked_queues::{BlankTotals, Set};
 use queue_records::READERS_EACH;
@@ -63,7 +61,10 @@ pub(crate) fn prepared_by<B: Set, R: RelayRuntime, F: ReloadSource>(
     }
     if gone_count(relay, &configuration) > MOST_DESTINATIONS {
         drop(configuration);
-        let text = String::from_str(alloc, "more than 64 destinations that are gone are still sent to\n");
+        let text = String::from_str(
+            alloc,
+            "more than 64 destinations that are gone are still sent to\n",
+        );
         return Err(refused(alloc, Refusal::Device, text));
     }
     let receivers = match ports.for_receivers(alloc) {
