@@ -87,7 +87,8 @@ impl AdminListener {
     }
 
     /// One turn: goes on with each connection, takes those that wait, and then waits for at most this number of
-    /// milliseconds. Returns whether one of them asked for the end of the run; it has its answer then.
+    /// milliseconds, unless one has asked for a reload. Returns whether one of them asked for the end of the run; it has its
+    /// answer then.
     ///
     /// From the first such turn on it leaves alone the connections that have sent nothing: they end when the listener is
     /// dropped, so that a peer knows when the relay has ended.
@@ -106,7 +107,8 @@ impl AdminListener {
             self.leave_alone();
         }
         let pause = self.pause(pause, is_more);
-        if !is_stopped && self.readiness.wait(pause).is_err() {
+        let goes_on = is_stopped || self.oldest_asking().is_some();
+        if !goes_on && self.readiness.wait(pause).is_err() {
             rt.sleep(Duration::from_millis(PAUSE_MS));
         }
         is_stopped
