@@ -1,3 +1,4 @@
 pub mod Closing
-pub mod Running
+pub mod LeftDest
 pub mod RunEnd
+pub mod Running

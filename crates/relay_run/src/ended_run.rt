@@ -1,6 +1,9 @@
 //! What a run leaves that another one follows.
 
-ghost use Rattle.std.specs.Prelude.{◌≤◌};
+ghost use Rattle.std.specs.Prelude.{◌≡◌, ℕ, ◌≤◌, ◌+◌, ◌++◌, length, min, take, IfOk};
+ghost use Rattle.line_text.specs.Print.{printed_lines};
+ghost use Rattle.handover.specs.Rest.{left_text};
+ghost use Rattle.relay_run.specs.LeftDest.{text_left};
 
 use crate::closing::closing_text;
 use crate::end_room::EndRoom;
@@ -153,7 +156,13 @@ fn add_queue(
 
 /// Puts the datapoints of a queue behind what is left for its destination. Returns how many were dropped: those for which there was
 /// no room, or all if a sender that had ended early left nothing and there is no memory for what sends them.
-fn add_points(alloc: Global, left: &mut LeftDest, points: QueuedPoints, shape: &Shape) -> usize {
+fn add_points(alloc: Global, left: &mut LeftDest, points: QueuedPoints, shape: &Shape) -> usize
+    ensures text { (kept : ℕ) × (text_left left.new.rest
+        ≡ text_left left.old.rest ++ printed_lines (take kept points))
+        × (length points ≡ min kept (length points) + result) }
+    ensures files { left.new.files ≡ left.old.files }
+    ensures socket { left.new.socket ≡ left.old.socket }
+{
     if let Some(rest) = &mut left.rest {
         return rest.add(points, shape.size);
     }
@@ -173,6 +182,7 @@ fn add_points(alloc: Global, left: &mut LeftDest, points: QueuedPoints, shape: &
 /// A rest of these datapoints, of which none is in hand.
 fn rest_of(alloc: Global, limit: usize, points: QueuedPoints) -> Result<Rest, NoMemory>
     requires limit { (1 ≤ limit) × (limit ≤ LARGEST_MESSAGE) }
+    ensures { IfOk result (λ rest. left_text rest ≡ printed_lines points) }
 {
     let lent = Hand::new(alloc, limit)?;
     let writer = Writer::new(alloc, limit)?;

@@ -1,7 +1,7 @@
 //! What a run begins with that follows another one.
 
-ghost use Rattle.std.specs.Prelude.{◌≡◌, true, IfErr};
-ghost use Rattle.relay_run.specs.Running.{is_start_fault};
+ghost use Rattle.std.specs.Prelude.{◌≡◌, ℕ, Some, slice_get};
+ghost use Rattle.relay_run.specs.declared.left_dest.LeftDest.{LeftDest};
 
 use crate::dest_slots::DestSlots;
 use crate::ended_run::EndedRun;
@@ -238,7 +238,11 @@ fn left_for(
 }
 
 /// Takes what is left for the destination of a place.
-fn left_at(ended: &mut EndedRun, place: usize) -> LeftDest {
+fn left_at(ended: &mut EndedRun, place: usize) -> LeftDest
+    ensures left { (left : LeftDest) → slice_get ended.old.lefts.items place ≡ Some left → result ≡ left }
+    ensures others { (other : ℕ) → ¬ (other ≡ place)
+        → slice_get ended.new.lefts.items other ≡ slice_get ended.old.lefts.items other }
+{
     match ended.lefts.get_mut(place) {
         Some(left) => mem::replace(left, LeftDest::none()),
         None => LeftDest::none(),
