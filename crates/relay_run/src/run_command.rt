@@ -231,7 +231,7 @@ fn run_relay<
     } = next;
     let is_first = number == 1;
     let OpenRelay {
-        mut relay,
+        relay,
         parts,
         mut ports,
     } = match Relay::<B>::open(rt, alloc, start, log, process, is_first) {
