@@ -377,7 +377,10 @@ class Changes(Reloads):
             self.reloads(relay, names[1:], MAX_QUEUE_SIZE="100000")
             self.reloads(relay, names, MAX_QUEUE_SIZE="100000")
             relay.lines(text_of(numbered(10, b"later")))
-            self.wait_for(lambda: relay.report()[0][1]["kept"] >= 10, "more is queued")
+            self.wait_for(lambda: relay.report()[0][1]["offered"] >= 10, "more is queued")
+            counts = relay.report()[0][1]
+            self.assertEqual(counts["kept"], counts["queued"] + counts["taken"])
+            self.assertEqual(counts["offered"], counts["kept"] + counts["dropped"])
             slow.read_on()
             self.wait_for(lambda: len(slow.lines()) == len(LONG) + 10, "all lines have come")
             self.assertEqual(slow.lines(), LONG + numbered(10, b"later"))

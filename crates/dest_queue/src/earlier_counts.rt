@@ -27,6 +27,17 @@ impl EarlierCounts {
         }
     }
 
+    /// Nothing is known of ended runs, but that this many datapoints that their queues kept wait to be taken in hand.
+    pub fn of_rest(count: u64) -> EarlierCounts
+        ensures { result ≡ record { offered = count; kept = count; dropped = 0 } }
+    {
+        EarlierCounts {
+            offered: count,
+            kept: count,
+            dropped: 0,
+        }
+    }
+
     /// One more run has ended, whose queue had counted this at its end.
     pub fn after_run(self, last: Counts) -> EarlierCounts
         ensures { result ≡ after_run last self }

@@ -179,7 +179,7 @@ fn inherit(
         rest.note(queued, in_hand);
         slots.add(left);
         dests.push_reserved(events_of(ended, kept[place]));
-        earlier.push_reserved(earlier_of(ended, kept[place]));
+        earlier.push_reserved(earlier_of(ended, kept[place], queued));
         rests.push_reserved(rest);
     }
     let count = ended.lefts.len();
@@ -260,8 +260,8 @@ fn events_of(ended: &mut EndedRun, kept: Option<DestId>) -> DestNotes {
     }
 }
 
-/// What the queues of a destination counted that was at this place.
-fn earlier_of(ended: &EndedRun, kept: Option<DestId>) -> EarlierCounts {
+/// What the queues of a destination counted that was at this place. One that returns begins with what is still queued for it.
+fn earlier_of(ended: &EndedRun, kept: Option<DestId>, queued: usize) -> EarlierCounts {
     match kept {
         Some(place) => ended
             .notes
@@ -269,6 +269,6 @@ fn earlier_of(ended: &EndedRun, kept: Option<DestId>) -> EarlierCounts {
             .get(place.0)
             .copied()
             .unwrap_or(EarlierCounts::none()),
-        None => EarlierCounts::none(),
+        None => EarlierCounts::of_rest(queued as u64),
     }
 }
