@@ -2,7 +2,7 @@ use Rattle.std.proofs.Common.{◌||◌, ◌==◌, ◌∙◌, Bool, false, ap, sy
 use Rattle.std.proofs.lemmas.List.{get_or-replicate}
 use Rattle.mio_loops.specs.declared.token.Token.{Token}
 use Rattle.mio_loops.proofs.ReadTurnLemmas.{ready-more}
-use Rattle.mio_loops.proofs.read_turn.marks_of.Goals as goal
+use Rattle.mio_loops.proofs.ready_tokens.marks_of.Goals as goal
 
 pub loop-token-init : goal.loop-token-init
 loop-token-init c = λ token low. get_or-replicate 1024 token false false low

@@ -1,6 +1,6 @@
 use Rattle.std.proofs.Common.{◌≡◌, ◌<◌, ℕ, false, take, slice_index_or}
 use Rattle.mio_loops.specs.ReadTurn.{is_ready}
-use Rattle.mio_loops.proofs.read_turn.marks_of.Given as goal
+use Rattle.mio_loops.proofs.ready_tokens.marks_of.Given as goal
 
 -- the marks of those so far
 abbrev pub invariant-loop-token : goal.invariant-loop-token

@@ -5,11 +5,11 @@ use Rattle.mio_loops.specs.LoopSteps.{LoopProgress, NoneHeldBack}
 use Rattle.mio_loops.specs.Reading.{entries_by, offers_by}
 use Rattle.mio_loops.specs.ReadTurn.{TokenProgress, is_ready, is_due}
 use Rattle.mio_loops.proofs.ReadTurnLemmas.{none-so_far, one-more, all-served, report-few}
-use Rattle.mio_loops.proofs.read_turn.serve_due_ones.Goals as goal
+use Rattle.mio_loops.proofs.read_loop.ReadLoop.turn.Goals as goal
 
 pub loop-token-init : goal.loop-token-init
 loop-token-init g c = record {
-  so_far = ([], [], [], none-so_far c.args.plan.now g.S.Read.remaining c.args.moment (is_ready c.args.ready.now) c.args.reads.now (g.D.Door.record_of c.args.door.now) _ c.new-report.ensures);
+  so_far = ([], [], [], none-so_far c.args.plan.now g.S.Read.remaining c.args.moment (is_ready c.args.ready.now) c.args.self.now (g.D.Door.record_of c.args.door.now) _ c.new-report.ensures);
   none_forgotten = λ some. absurd (omega (arith, some));
   dests = c.requires.dests;
   plan = refl;
@@ -63,17 +63,17 @@ loop-token-preserved g c =
         _,
         _,
         one-more c.args.plan.now g.S.Read.remaining c.args.moment (is_ready c.args.ready.now) i before.0 c.serve_if_due.result before.1 before.2 went.0 went.1
-            c.args.reads.now c.loop-token.reads next.self (g.D.Door.record_of c.args.door.now) (g.D.Door.record_of c.loop-token.door) (g.D.Door.record_of next.door) c.loop-token.report c.count.new.self
+            c.args.self.now c.loop-token.self next.self (g.D.Door.record_of c.args.door.now) (g.D.Door.record_of c.loop-token.door) (g.D.Door.record_of next.door) c.loop-token.report c.count.new.self
             before.3
-            (subst (λ (p : Plan). LoopProgress p (entries_by (c.loop-token.reads.first + i) went.0) (offers_by (c.loop-token.reads.first + i) went.1) c.loop-token.reads next.self (g.D.Door.record_of c.loop-token.door) (g.D.Door.record_of next.door)) held.plan went.2)
-            (subst (λ (p : Plan). TokenProgress g.S.Read.remaining p c.args.moment i c.serve_if_due.result went.0 went.1 c.loop-token.reads next.self) held.plan went.3)
-            (step.chosen ∙ ap (λ (b : Bool). is_due b c.loop-token.reads i) (c.marks_of-marks.ensures i low))
+            (subst (λ (p : Plan). LoopProgress p (entries_by (c.loop-token.self.first + i) went.0) (offers_by (c.loop-token.self.first + i) went.1) c.loop-token.self next.self (g.D.Door.record_of c.loop-token.door) (g.D.Door.record_of next.door)) held.plan went.2)
+            (subst (λ (p : Plan). TokenProgress g.S.Read.remaining p c.args.moment i c.serve_if_due.result went.0 went.1 c.loop-token.self next.self) held.plan went.3)
+            (step.chosen ∙ ap (λ (b : Bool). is_due b c.loop-token.self i) (c.marks_of-marks.ensures i low))
             step.others c.count.ensures,
       );
       none_forgotten = λ some. step.none_forgotten;
       dests = subst (λ (p : Plan). p.destinations ≤ length (g.D.Door.record_of next.door).totals) held.plan step.dests;
       plan = step.plan ∙ held.plan;
-      waits = λ before. (subst (λ (p : Plan). NoneHeldBack (IsRefusedBy g.D.Door.may_refuse) p.destinations c.loop-token.reads → NoneHeldBack (IsRefusedBy g.D.Door.may_refuse) p.destinations next.self) held.plan step.waits) (held.waits before);
+      waits = λ before. (subst (λ (p : Plan). NoneHeldBack (IsRefusedBy g.D.Door.may_refuse) p.destinations c.loop-token.self → NoneHeldBack (IsRefusedBy g.D.Door.may_refuse) p.destinations next.self) held.plan step.waits) (held.waits before);
     }
 
 pub returns-clause-turn : goal.returns-clause-turn
@@ -86,7 +86,7 @@ returns-clause-turn g c =
       held.1,
       held.2,
       held.3.went,
-      all-served c.args.plan.now g.S.Read.remaining c.args.moment (is_ready c.args.ready.now) c.loop-token.token held.0 held.1 held.2 c.args.reads.now c.loop-token.reads
+      all-served c.args.plan.now g.S.Read.remaining c.args.moment (is_ready c.args.ready.now) c.loop-token.token held.0 held.1 held.2 c.args.self.now c.loop-token.self
           (g.D.Door.record_of c.args.door.now) (g.D.Door.record_of c.loop-token.door) c.loop-token.report
           (λ token is. subst (λ (n : ℕ). token < n) all (c.tokens-token-end.ensures.no_more token is)) held.3,
       held.3.reported,
