@@ -46,6 +46,7 @@ impl<'x, B: Set> Unsent<'x, B> {
 
     /// How many destinations there are.
     pub(crate) fn dests(&self) -> usize
+        ensures dests { result ≡ self.now.dests }
         ensures few { result ≤ B.dests }
     {
         self.dests
