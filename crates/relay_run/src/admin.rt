@@ -26,8 +26,8 @@ const PAUSE_MS: u64 = 1_000;
 /// How many milliseconds pass between two looks at receivers that close.
 const CLOSING_PAUSE_MS: u64 = 1;
 
-/// How many milliseconds pass between two looks at what remains to be sent.
-const DRAIN_PAUSE_MS: u64 = 10;
+/// How many milliseconds pass between two looks at what remains to be sent. Meanwhile no port is open.
+const DRAIN_PAUSE_MS: u64 = 1;
 
 /// How many milliseconds pass between two looks at what remains to be written to files.
 const SPOOL_PAUSE_MS: u64 = 1;
@@ -89,7 +89,12 @@ impl<B: Set, R: Wait + Clock + Net, W: Write> FirstThread<R> for AdminPort<'_, B
     }
 
     fn close_receivers(&mut self, rt: &R, alloc: Global) {
+        spool_away(self.relay);
         answer_while_closing(rt, alloc, self.listener, self.relay, self.controls);
+    }
+
+    fn stop_datagrams(&self) {
+        self.relay.orders.stop_datagrams();
     }
 
     fn wake_receivers(&self) {
@@ -122,6 +127,28 @@ impl<B: Set, R: Wait + Clock + Net, W: Write> FirstThread<R> for AdminPort<'_, B
 /// What remains to be sent by a relay with this end.
 fn unsent_of<'x, B: Set>(relay: &'x Relay<B>, end: &'x EndState) -> Unsent<'x, B> {
     Unsent::new(&relay.queues, relay.shape.dests, relay.noted().notes, end)
+}
+
+/// If files keep what is not sent, has the senders begin with the files of destinations that are not connected. So most of what
+/// waits for these is written while the ports are open.
+fn spool_away<B: Set>(relay: &Relay<B>) {
+    if relay.shape.is_spooled {
+        relay.orders.spool_to(away_of(relay));
+        relay.gate.wake_all();
+    }
+}
+
+/// The destinations that are not connected, a bit each.
+fn away_of<B: Set>(relay: &Relay<B>) -> u64 {
+    let mut away: u64 = 0;
+    let mut bit: u64 = 1;
+    for notes in relay.noted().notes {
+        if !notes.status(0, true).is_up {
+            away |= bit;
+        }
+        bit = bit.wrapping_mul(2);
+    }
+    away
 }
 
 /// Answers commands until one is `stop`.

@@ -1,4 +1,5 @@
-//! How a run ends once the first thread has served: the receivers, then the senders, at last those that watch.
+//! How a run ends once the first thread has served: the receivers, of datagrams last, then the senders, at last those that
+//! watch.
 
 ghost use Rattle.std.specs.Prelude.{◌≡◌, ◌⊎◌, Err, if◌then◌else◌};
 
@@ -45,9 +46,7 @@ pub(crate) fn end_threads<R: Threads + Wait + Clock, M: FirstThread<R>>(
         ..
     } = started;
     close_if(rt, alloc, served.is_ok(), first);
-    signals.stop_receivers();
-    first.wake_receivers();
-    let (receivers, are_kept) = join_all(rt, alloc, receivers);
+    let (receivers, are_kept) = end_receivers(rt, alloc, signals, receivers, first);
     let served = served_if(are_kept, served);
     send_rest_if(rt, alloc, served.is_ok(), first);
     signals.stop_senders();
@@ -61,6 +60,28 @@ pub(crate) fn end_threads<R: Threads + Wait + Clock, M: FirstThread<R>>(
         senders,
         served,
     }
+}
+
+/// Ends the receivers: those of connections, and once they have ended the one of datagrams. If there is one, it is the last.
+/// Returns how they ended, in order, and whether there was memory to keep all of that.
+fn end_receivers<R: Threads + Wait + Clock, M: FirstThread<R>>(
+    rt: &R,
+    alloc: Global,
+    signals: &Signals,
+    receivers: Vec<JoinHandle<ThreadEnd<DoorRecord, FedLog>>>,
+    first: &M,
+) -> (Vec<ThreadEnd<DoorRecord, FedLog>>, bool) {
+    let mut receivers = receivers;
+    let last = receivers.pop();
+    signals.stop_receivers();
+    first.wake_receivers();
+    let (mut ends, mut are_kept) = join_all(rt, alloc, receivers);
+    first.stop_datagrams();
+    first.wake_receivers();
+    if let Some(last) = last {
+        are_kept = ends.push(last.join(rt)).is_ok() && are_kept;
+    }
+    (ends, are_kept)
 }
 
 /// Closes the receivers if the run went on until it was stopped.

@@ -13,6 +13,7 @@ mod admin;
 mod closing;
 mod counted_connector;
 mod descriptors;
+mod end_orders;
 mod ending;
 mod first_thread;
 mod listeners;

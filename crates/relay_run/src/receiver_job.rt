@@ -3,6 +3,7 @@
 ghost use Rattle.std.specs.Prelude.{◌≡◌, ◌<◌, ◌≤◌, true, length, Some, IfErr};
 ghost use Rattle.relay_run.specs.Running.{fault_of_plan, is_start_fault};
 
+use crate::end_orders::EndOrders;
 use crate::listeners::BoundPort;
 use crate::ready_datagrams::ReadyDatagrams;
 use crate::runtime::SystemTables;
@@ -165,6 +166,7 @@ pub(crate) struct ReceiverJob<'d, B: Set, R: Wait> {
     configuration: &'d RunConfiguration,
     door: LockedDoor<'d, B, R, WakeGate>,
     share: Share<'d>,
+    orders: &'d EndOrders,
     is_recorded: bool,
     ghost few: { receiver < 8 },
     ghost dests: { length configuration.now.settings.routing.destinations
@@ -172,13 +174,15 @@ pub(crate) struct ReceiverJob<'d, B: Set, R: Wait> {
 }
 
 impl<'d, B: Set, R: Wait> ReceiverJob<'d, B, R> {
-    /// The receiver of a number. The door has all destinations of the configuration. Its listener may be shared.
+    /// The receiver of a number. The door has all destinations of the configuration. Its listener may be shared, and if it
+    /// receives datagrams, these orders say when it stops.
     pub(crate) fn new(
         inlet: Inlet,
         receiver: usize,
         configuration: &'d RunConfiguration,
         door: LockedDoor<'d, B, R, WakeGate>,
         share: Share<'d>,
+        orders: &'d EndOrders,
     ) -> ReceiverJob<'d, B, R>
         requires few { receiver < MOST_RECEIVERS }
         requires dests { length configuration.now.settings.routing.destinations
@@ -190,6 +194,7 @@ impl<'d, B: Set, R: Wait> ReceiverJob<'d, B, R> {
             configuration,
             door,
             share,
+            orders,
             is_recorded: false,
         }
     }
@@ -214,7 +219,7 @@ impl<'d, B: Set, R: Wait + Clock> ThreadWork<R, ThreadEnd<DoorRecord, FedLog>>
     }
 }
 
-/// Makes the plan, and receives until the receivers' stop flag is set, or a fault.
+/// Makes the plan, and receives until the receiver's stop flag is set, or a fault.
 fn receive_until_stopped<B: Set, R: Wait + Clock>(
     job: ReceiverJob<'_, B, R>,
     rt: &R,
@@ -262,7 +267,7 @@ fn receive_nothing<'d, B: Set, R: Wait>(
     }
 }
 
-/// Receives until the receivers' stop flag is set, or a fault, by a plan of the job's configuration.
+/// Receives until the receiver's stop flag is set, or a fault, by a plan of the job's configuration.
 fn receive_by_plan<'d, B: Set, R: Wait + Clock>(
     rt: &R,
     alloc: Global,
@@ -277,6 +282,7 @@ fn receive_by_plan<'d, B: Set, R: Wait + Clock>(
         receiver,
         door,
         share,
+        orders,
         ..
     } = job;
     match inlet {
@@ -305,7 +311,7 @@ fn receive_by_plan<'d, B: Set, R: Wait + Clock>(
         Inlet::Datagrams(socket) => {
             let socket = ReadyDatagrams::new(socket, BeginNote::new(signals));
             let times = SystemTimes::new(rt);
-            let stop = signals.receivers();
+            let stop = orders.datagrams();
             receive_datagrams(rt, alloc, socket, receiver, plan, door, &times, stop)
         }
     }

@@ -139,7 +139,14 @@ fn receiver_job<'x, B: Set, R: RelayRuntime>(
         held: relay.state.held(),
         own: receiver,
     };
-    let mut job = ReceiverJob::new(inlet, receiver, &relay.configuration, door, share);
+    let mut job = ReceiverJob::new(
+        inlet,
+        receiver,
+        &relay.configuration,
+        door,
+        share,
+        &relay.orders,
+    );
     job.set_recorded(relay.shape.is_recorded);
     job
 }

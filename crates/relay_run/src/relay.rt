@@ -3,6 +3,7 @@
 ghost use Rattle.std.specs.Prelude.{◌≡◌, ◌≤◌, true, length, IfErr};
 ghost use Rattle.relay_run.specs.Running.{is_start_fault};
 
+use crate::end_orders::EndOrders;
 use crate::listeners::{BoundPort, Ports};
 use crate::sender_setup::{alarms_of, watches_of};
 use crate::shape::Shape;
@@ -24,7 +25,7 @@ use std::net::Net;
 pub(crate) const NAME: u64 = 1;
 
 /// What a run is made of, and its threads borrow: its configuration and its numbers, its queues, the gate that wakes the
-/// senders, and what the threads share beside these.
+/// senders, what the threads share beside these, and what some are told at the end.
 #[derive(Drop)]
 pub(crate) struct Relay<B: Set> {
     pub(crate) configuration: RunConfiguration,
@@ -32,6 +33,7 @@ pub(crate) struct Relay<B: Set> {
     pub(crate) queues: Queues<B>,
     pub(crate) gate: WakeGate,
     pub(crate) state: RunState,
+    pub(crate) orders: EndOrders,
     ghost dests: { (shape.dests ≡ B.dests) × (1 ≤ shape.dests) × (shape.dests ≤ 64) },
     ghost all: { length configuration.settings.routing.destinations ≡ B.dests },
     ghost size: { (1 ≤ shape.size) × (shape.size ≤ 1000000) },
@@ -143,6 +145,7 @@ impl<B: Set> Relay<B> {
                     queues,
                     gate,
                     state,
+                    orders: EndOrders::new(),
                 };
                 let seats = Seats { doors, outlets };
                 Ok(open_relay(relay, seats, ports, watches, spool, log))

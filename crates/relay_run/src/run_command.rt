@@ -22,6 +22,7 @@ use relay_files::{RelayFault, RunConfiguration, Source, Sources, Status};
 use std::alloc::Global;
 use std::io::Write;
 use std::marker::Brand;
+use std::mem;
 
 /// Runs a relay until its admin port takes `stop`, and settles.
 ///
@@ -117,7 +118,7 @@ fn run_relay<
             let ended = run_to_end(rt, alloc, &mut relay, parts, &mut admin, output, recorder);
             // Whoever waits at the admin port for the end of the relay knows of it now.
             drop(admin);
-            drop(relay);
+            mem::forget(relay);
             ended
         }
         Err(fault) => Err(fault),
@@ -148,7 +149,8 @@ fn run_to_end<
     let settled = relay.queues.settle(alloc, doors, outlets);
     let run = relay.finished(&settled, &records.logs);
     let ended = write_end(alloc, &run, records.fault, output, recorder);
-    drop(settled);
-    drop(records);
+    // Datapoint by datapoint it would take long to give all this back. The process ends, and the system takes it at once.
+    mem::forget(settled);
+    mem::forget(records);
     ended
 }

@@ -51,7 +51,7 @@ impl<'x, B: Set, R: Wait + Clock + Net + SpoolDisk + Copy + Drop> ThreadWork<
         } = self;
         let (dests, limit) = (relay.shape.dests, relay.shape.limit);
         let times = SystemTimes::new(rt);
-        let connector = SpoolConnector::new(connector, *rt, spool, signals);
+        let connector = SpoolConnector::new(connector, *rt, spool, signals, &relay.orders);
         let connector = CountedConnector::new(
             connector,
             relay.state.end(),

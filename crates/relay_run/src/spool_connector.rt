@@ -2,6 +2,7 @@
 
 ghost use Rattle.std.specs.Prelude.{◌≡◌, ◌≤◌, IfErr};
 
+use crate::end_orders::EndOrders;
 use mio_loops::ReadinessFault;
 use relay_base::{DestId, MOST_DESTINATIONS, NoMemory, add};
 use run_state::Signals;
@@ -71,8 +72,8 @@ fn note_behind(notes: Option<&SpoolNotes>, spool: &Option<DestSpool>) {
 }
 
 /// Connects through another connector. While the file of an earlier run holds lines for a destination, it keeps the
-/// connection for itself and sends the file, so that the destination is not connected for others before. Once the senders
-/// spool, it reports all connections as closed, and the next connection of each destination is its new file.
+/// connection for itself and sends the file, so that the destination is not connected for others before. Once a
+/// destination is spooled, it reports its connection as closed, and the next one is its new file.
 ///
 /// Without a spool it connects as the other connector does.
 #[derive(Drop)]
@@ -81,6 +82,7 @@ pub(crate) struct SpoolConnector<'n, 's, N: Connect, D> {
     disk: D,
     spool: SenderSpool<'n, N::Sink>,
     signals: &'s Signals,
+    orders: &'s EndOrders,
     ready: [DestId; MOST_DESTINATIONS],
 }
 
@@ -91,14 +93,22 @@ impl<'n, 's, N: Connect, D: SpoolDisk + Copy + Drop> SpoolConnector<'n, 's, N, D
         disk: D,
         spool: SenderSpool<'n, N::Sink>,
         signals: &'s Signals,
+        orders: &'s EndOrders,
     ) -> SpoolConnector<'n, 's, N, D> {
         SpoolConnector {
             connector,
             disk,
             spool,
             signals,
+            orders,
             ready: [DestId(0); MOST_DESTINATIONS],
         }
+    }
+
+    /// Whether the last connection of a destination is its new file.
+    fn is_spooling(&self, dest: DestId) -> bool {
+        let is_told = self.signals.is_spooling() || self.orders.is_spooled(dest);
+        is_told && !self.spool.is_none()
     }
 
     /// Waits; not at all if a file goes on at once. Connections that have closed take no more of their files.
@@ -264,7 +274,7 @@ impl<'n, 's, N: Connect + Drop, D: SpoolDisk + Copy + Drop> Connect
     }
 
     fn connect(&mut self, dest: DestId, millis: u64) -> Option<SpoolSink<'n, N::Sink, D>> {
-        if self.signals.is_spooling() && !self.spool.is_none() {
+        if self.is_spooling(dest) {
             let files = self.spool.take_files(dest.0)?;
             let notes = self.spool.notes.get(dest.0);
             let file = FileSink::new(self.disk, files, self.spool.limit, notes);
@@ -274,7 +284,7 @@ impl<'n, 's, N: Connect + Drop, D: SpoolDisk + Copy + Drop> Connect
     }
 
     fn has_closed(&self, dest: DestId) -> bool {
-        if self.signals.is_spooling() && !self.spool.is_none() {
+        if self.is_spooling(dest) {
             return self.spool.has_file(dest.0);
         }
         self.connector.has_closed(dest)
