@@ -12,6 +12,7 @@
 mod admin;
 mod closing;
 mod counted_connector;
+mod datagram_room;
 mod descriptors;
 mod end_orders;
 mod ending;
