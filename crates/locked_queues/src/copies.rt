@@ -27,6 +27,26 @@ struct Copied {
     steps: Vec<Step>,
 }
 
+/// What each queue has counted. No thread has a lock, since they are borrowed as a whole.
+pub(crate) fn counts_of_all<B: Set>(
+    alloc: Global,
+    locks: &mut Vec<CachePadded<Mutex<LockedQueue<B>>>>,
+) -> Result<Vec<Counts>, NoMemory>
+    ensures locks { vec_len locks.new ≡ vec_len locks.old }
+    ensures counts { IfOk result (λ counts. vec_len counts ≡ vec_len locks.old) }
+{
+    let mut counts = Vec::with_capacity(alloc, locks.len())?;
+    for dest in 0..locks.len() {
+        counts.push_reserved(counts_under(&mut locks[dest]));
+    }
+    Ok(counts)
+}
+
+/// What a queue has counted.
+fn counts_under<B: Set>(lock: &mut CachePadded<Mutex<LockedQueue<B>>>) -> Counts {
+    lock.get_mut().queue.counts()
+}
+
 /// Copies the counts and the history of each queue.
 pub(crate) fn copy_all<B: Set>(
     alloc: Global,

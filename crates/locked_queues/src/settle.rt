@@ -8,7 +8,7 @@ ghost use Rattle.queue_records.specs.Records.{SettlesBy};
 ghost use Rattle.locked_queues.specs.SettleFault.{sealed_counts, HasAllCounts, IsPlain};
 ghost use Rattle.queue_records.specs.Strangers.{AreOfSet};
 
-use crate::copies::{Copies, copy_all};
+use crate::copies::{Copies, copy_all, counts_of_all};
 use crate::queues::Queues;
 use crate::settled::{SettleFault, Settled, StepMaker};
 use crate::shares::Set;
@@ -67,9 +67,41 @@ impl<B: Set> Queues<B> {
         ) {
             return Err(SettleFault::Strangers);
         }
+        // A sealed history, which each long run has, is not copied.
+        let counts = counts_of_all(alloc, &mut self.locks)?;
+        check_whole(alloc, counts, doors, outlets)?;
         let copies = copy_all(alloc, &mut self.locks)?;
         let readers = READERS_EACH * self.receivers;
         compare(alloc, copies, readers, doors, outlets)
+    }
+}
+
+/// Refuses counts that are not the sums of the records' totals (`Totals`), and a history that was sealed or an offer or a take
+/// that was left out of a record (`Sealed`).
+fn check_whole(
+    alloc: Global,
+    counts: Vec<Counts>,
+    doors: &[DoorRecord],
+    outlets: &[OutletRecord],
+) -> Result<(), SettleFault>
+    ensures sealed_totals { IfErr result (λ fault.
+        HaveSums doors.now outlets.now (sealed_counts fault)) }
+    ensures sealed_all { IfErr result (HasAllCounts (vec_len counts)) }
+    ensures known { IfErr result (λ fault. ¬ (fault ≡ SettleFault.Strangers)) }
+{
+    match first_not_whole(alloc, counts.as_slice(), doors, outlets) {
+        Ok(None) => {
+            drop(counts);
+            Ok(())
+        }
+        Ok(Some(dest)) => Err(SettleFault::Sealed {
+            dest: DestId(dest),
+            counts,
+        }),
+        Err(fault) => {
+            drop(counts);
+            Err(fault)
+        }
     }
 }
 
