@@ -31,7 +31,8 @@ WATCHING = 40         # producers that look for the end before each write
 AGAIN = 10            # producers that connect again
 QUIET = 0.02          # seconds for which nothing comes before a relay that stops no longer waits for more
 CLOSING = 0.5         # seconds that it takes at most to close its receivers
-DATAGRAMS = 2_000
+DATAGRAMS = 4_000     # with their blank lines more than the buffer that a relay asks for
+BLANK = 4_000         # lines of a datagram beside its datapoint
 NOTING = 2            # seconds
 BELOW_ROOM = 100      # datagrams that fit into a socket's buffer
 MOST_CONNECTIONS = 1_024
@@ -270,7 +271,7 @@ class Losses(Receiving):
                 os.kill(relay.child.pid, signal.SIGSTOP)
                 with socket.socket(family, socket.SOCK_DGRAM) as sender:
                     for number in range(DATAGRAMS):
-                        sender.sendto(b"d%d 1 1" % number, (address, relay.udp))
+                        sender.sendto(b"d%d 1 1" % number + b"\n" * BLANK, (address, relay.udp))
                 os.kill(relay.child.pid, signal.SIGCONT)
                 self.wait_for(lambda: self.dropped(relay) + len(relay.store.lines()) == DATAGRAMS, "all are read or counted")
                 self.ends(relay)
