@@ -5,8 +5,8 @@
 
 The changes mean the same as what they replace. They stay until the end, so that each is measured over what the one before
 it left. For each there are three times: of the quick program, of the check of that crate, and of that of all others after
-it. The last lines are the rows of two tables. Nothing else should run on the machine, and the kit
-should have kept nothing of other clones on it.
+it. Each row of the two tables is printed on standard error as soon as it is known. Nothing else should run on the machine,
+and the kit should have kept nothing of other clones on it.
 """
 
 import argparse
@@ -78,12 +78,8 @@ def main():
     parser = argparse.ArgumentParser(description=__doc__.partition("\n")[0])
     parser.add_argument("--changes", action="store_true")
     first = () if parser.parse_args().changes else ((f"`{words}`", [seconds(*words.split())]) for words in FIRST)
-    rows = []
-    try:
-        for name, times in itertools.chain(first, after_changes()):
-            rows.append(f"| {name} | {' | '.join(map(spoken, times))} |")
-    finally:
-        print(*rows, sep="\n")
+    for name, times in itertools.chain(first, after_changes()):
+        print(f"| {name} | {' | '.join(map(spoken, times))} |", file=sys.stderr, flush=True)
 
 
 if __name__ == "__main__":

@@ -287,6 +287,23 @@ class Connections(Reloads):
             self.stops(relay)
         self.assertEqual(os.listdir(folder), ["~lock"])
 
+    def test_a_stop_after_reloads(self):
+        """The file of a store that is away has what ended runs left, and then what is queued."""
+        folder = self.path("spool")
+        os.mkdir(folder)
+        port, = free_ports(1)
+        dests = [f"127.0.0.1:{port}"]
+        lines = numbered(300)
+        with self.running(dests, options=("--spool", folder)) as relay:
+            for turn in range(3):
+                relay.lines(text_of(lines[turn * 100:][:100]))
+                self.wait_for(lambda: relay.totals()["kept"] == (turn + 1) * 100, "all lines are queued")
+                if turn < 2:
+                    self.reloads(relay, dests)
+            self.stops(relay)
+        with open(os.path.join(folder, dests[0]), "rb") as file:
+            self.assertEqual(file.read(), text_of(lines))
+
 
 class Changes(Reloads):
     """What a reload changes."""

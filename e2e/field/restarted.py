@@ -11,8 +11,8 @@ harder bars, for a machine with nothing else to do.
 What else is lost counts each time, but where the machine held up relay, producers or stores in that restart (`Trial.held_up`):
 then it is tried again.
 
-What the system drops of datagrams, since the socket's buffer is full, is read from its table and does not count: by default
-the buffer holds 256 of them, a quarter of a second. While the relay is frozen it drops most.
+What the system drops of datagrams, since the socket's buffer is full, is read from its table. Where it lets a relay have a
+buffer for a second of them, it may drop none. Elsewhere that does not count.
 """
 
 import bisect
@@ -52,6 +52,7 @@ MOST_SILENT_LONGER = 0.05
 SPOOLED = 50_000       # datapoints for a store that is away
 WAITING = 60_000       # datapoints, half of them for a store that reads nothing
 LONG = b"n" * 220      # they do not fit the room that the system has for a connection
+LEAST_ROOM = 1_000_000  # of `net.core.rmem_max`, which lets a relay have a buffer for a second of datagrams
 SCHEDSTAT = "/proc/{}/task/{}/schedstat"
 
 
@@ -59,6 +60,14 @@ def stolen():
     """For how many seconds others on the same hardware have had this machine's processors."""
     with open("/proc/stat", encoding="ascii") as file:
         return int(file.readline().split()[8]) / os.sysconf("SC_CLK_TCK")
+
+
+def has_room():
+    """Whether the system lets a relay have a buffer for a second of datagrams."""
+    with contextlib.suppress(OSError, ValueError):
+        with open("/proc/sys/net/core/rmem_max", encoding="ascii") as file:
+            return int(file.read()) >= LEAST_ROOM
+    return False
 
 
 class Seen:
@@ -313,6 +322,8 @@ class Restarted(Field):
         for _ in range(TRIES):
             stores = self.stores(2)
             trial = self.trial(self.relay(stores), stores, count, **how)
+            if has_room():
+                self.assertEqual(sum(trial.dropped), 0, "datagrams that the system dropped")
             is_soon = best(trial.refused) <= MOST_REFUSED if Settings.longer else best(trial.shut()) <= MOST_SHUT
             if self.keeps(trial) and best(trial.beyond()) <= MOST_DATAGRAMS and is_soon:
                 return

@@ -39,8 +39,8 @@ pub fn ask<R: Net + Clock, W: Write>(
     written
 }
 
-/// Sends a request for a reload ([`crate::reload_request`]) to the relay whose admin port this is, and returns its answer, which
-/// `reload_answer_in` reads.
+/// Sends a request for a reload ([`crate::reload_request`]) to the relay whose admin port this is, and returns its answer,
+/// which `reload_answer_in` reads.
 ///
 /// Refuses a port at which nothing listens, and all that is not the whole answer of a relay, within about a minute.
 pub fn ask_reload<R: Net + Clock>(

@@ -35,8 +35,8 @@ pub struct ReloadFiles<'a> {
     pub longest_name: Option<&'a str>,
 }
 
-/// The files that a request for a reload names; `None` if it names no configuration file: then those that the run began with are
-/// read again. A value that is not UTF-8 is none.
+/// The files that a request for a reload names; `None` if it names no configuration file: then those that the run began with
+/// are read again. A value that is not UTF-8 is none.
 pub fn reload_files_in(sent: &[u8]) -> Option<ReloadFiles<'_>> {
     Some(ReloadFiles {
         config: text_in(CONFIG, sent)?,

@@ -6,7 +6,7 @@ use admin_client::{
     AdminCommand, LONGEST_COMMAND, LONGEST_REQUEST, RELOADED, STOPPING, UNKNOWN_COMMAND, command_in,
 };
 use mio::net::TcpStream;
-use mio_loops::exchange::{MOST_TRIES, PATIENCE_MS, Transfer};
+use mio_loops::exchange::{MOST_TRIES, PATIENCE_MS, Transfer, read_away};
 use std::alloc::Global;
 use std::io::{Read, Write};
 use std::mem;
@@ -282,13 +282,10 @@ impl AdminConnection {
     /// Reads and drops all bytes, until its peer has closed the connection.
     fn read_away(&mut self) -> Progress {
         let mut room = [0u8; 1024];
-        for _ in 0..MOST_TRIES {
-            match Transfer::of(self.stream.read(&mut room)) {
-                Transfer::Bytes(_) => {}
-                Transfer::Blocked => return Progress::Waits,
-                Transfer::End | Transfer::Failed => return Progress::Over,
-            }
+        if read_away(&mut self.stream, &mut room) {
+            Progress::Over
+        } else {
+            Progress::Waits
         }
-        Progress::Waits
     }
 }

@@ -114,8 +114,8 @@ impl AdminListener {
         is_stopped
     }
 
-    /// The oldest connection that has asked for a reload: it waits until that is answered ([`AdminListener::answer_reload`]). Call
-    /// it after each turn.
+    /// The oldest connection that has asked for a reload: it waits until that is answered ([`AdminListener::answer_reload`]).
+    /// Call it after each turn.
     pub fn next_reload(&mut self, alloc: Global) -> Option<AskedReload> {
         let place = self.oldest_asking()?;
         match self.slots.get_mut(place) {
@@ -147,7 +147,8 @@ impl AdminListener {
         self.begin_answer(number, Answer::Text(text), millis);
     }
 
-    /// Answers the connection of this number, which has asked for a reload, that the relay runs by the new files. It takes no memory.
+    /// Answers the connection of this number, which has asked for a reload, that the relay runs by the new files. It takes no
+    /// memory.
     pub fn answer_reloaded(&mut self, number: u64, millis: u64) {
         self.begin_answer(number, Answer::Reloaded, millis);
     }

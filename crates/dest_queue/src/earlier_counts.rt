@@ -4,7 +4,8 @@ ghost use Rattle.dest_queue.specs.EarlierCounts.{after_run, after_drops, with_re
 
 use crate::counts::Counts;
 
-/// What the queues of a destination counted in runs that have ended in this process. Each count stays at 2^64 - 1 once it is there.
+/// What the queues of a destination counted in runs that have ended in this process. Each count stays at 2^64 - 1 once it is
+/// there.
 #[derive(Clone, Copy, Debug)]
 pub struct EarlierCounts {
     /// The offers that the queues answered.
@@ -49,8 +50,8 @@ impl EarlierCounts {
         }
     }
 
-    /// This many datapoints that a queue had kept found no room behind those of earlier runs: they were taken from it, offered once
-    /// more, and dropped.
+    /// This many datapoints that a queue had kept found no room behind those of earlier runs: they were taken from it, offered
+    /// once more, and dropped.
     pub fn after_drops(self, count: u64) -> EarlierCounts
         ensures { result ≡ after_drops count self }
     {
@@ -61,8 +62,8 @@ impl EarlierCounts {
         }
     }
 
-    /// The counts of all runs, with what the queue has counted in this one, while this many datapoints of earlier runs wait to be
-    /// taken in hand.
+    /// The counts of all runs, with what the queue has counted in this one, while this many datapoints of earlier runs wait to
+    /// be taken in hand.
     pub fn with_rest(self, rest: u64, counts: Counts) -> Counts
         ensures { result ≡ with_rest rest counts self }
     {

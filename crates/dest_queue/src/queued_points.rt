@@ -56,9 +56,9 @@ impl QueuedPoints {
         self.points.is_empty()
     }
 
-    /// Adds those of a later queue behind them, the oldest first, as many as their own room has places for and at most `most` in
-    /// all; the others are dropped. Returns how many these are. If there are none yet, the later queue takes their place, with its
-    /// room. It takes no memory.
+    /// Adds those of a later queue behind them, the oldest first, as many as their own room has places for and at most `most`
+    /// in all; the others are dropped. Returns how many these are. If there are none yet, the later queue takes their place,
+    /// with its room. It takes no memory.
     pub fn add(&mut self, later: QueuedPoints, most: usize) -> usize
         ensures added { (kept : ℕ) × (self.new ≡ self.old ++ take kept later)
             × (length later ≡ min kept (length later) + result) }

@@ -7,8 +7,8 @@ use crate::pattern_faults::{PatternText, add_bad_pattern};
 use crate::setting_faults::{TRUTH_WORDS, add_near_key, comment_in, section_named};
 use conf_text::{Ini, Section, truth};
 use note_text::{
-    EscapedText, FileLine, Notes, RELAY, RULE_KEYS, SectionAt, TextFile, add_passed_over, header_of,
-    key_value, line_of_key, why_passed_over,
+    EscapedText, FileLine, Notes, RELAY, RULE_KEYS, SectionAt, TextFile, add_passed_over,
+    header_of, key_value, line_of_key, why_passed_over,
 };
 use relay_rules::RuleFault;
 use std::alloc::Global;

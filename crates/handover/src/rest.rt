@@ -8,8 +8,8 @@ use dest_queue::{Hand, QueuedPoints};
 use dest_writer::Writer;
 use std::marker::Model;
 
-/// What an ended run left for a destination: its writer with the batch in hand, and what was queued behind that. It takes no more
-/// memory than that run had for it.
+/// What an ended run left for a destination: its writer with the batch in hand, and what was queued behind that. It takes no
+/// more memory than that run had for it.
 ///
 /// Clauses see it as the writer, and what is queued behind its hand.
 #[derive(Drop)]
@@ -32,8 +32,8 @@ impl Model for Rest {
 }
 
 impl Rest {
-    /// What was left by a writer for batches of at most `limit` datapoints, with the hand that was lent it, which is empty and has
-    /// room for a batch, and by its queue. It takes no memory.
+    /// What was left by a writer for batches of at most `limit` datapoints, with the hand that was lent it, which is empty and
+    /// has room for a batch, and by its queue. It takes no memory.
     pub fn new(limit: usize, writer: Writer, lent: Hand, queued: QueuedPoints) -> Rest
         requires least { 1 ≤ limit }
         requires fits { writer.limit ≡ limit }
@@ -50,9 +50,9 @@ impl Rest {
         }
     }
 
-    /// Adds what a later run left in its queue, whose writer had no connection, and so nothing in hand: as many datapoints as the
-    /// room of the first queue has places for, and at most `most` that are queued in all. The others are dropped; returns how many
-    /// these are. It takes no memory.
+    /// Adds what a later run left in its queue, whose writer had no connection, and so nothing in hand: as many datapoints as
+    /// the room of the first queue has places for, and at most `most` that are queued in all. The others are dropped; returns
+    /// how many these are. It takes no memory.
     pub fn add(&mut self, points: QueuedPoints, most: usize) -> usize
         ensures writer { self.new.writer ≡ self.old.writer }
         ensures added { (kept : ℕ) × (self.new.queued ≡ self.old.queued ++ take kept points)
@@ -87,7 +87,8 @@ impl Rest {
         self.queued.is_empty()
     }
 
-    /// The connection is gone, if the writer had one: the next one gets the rest from the first line that it did not take whole.
+    /// The connection is gone, if the writer had one: the next one gets the rest from the first line that it did not take
+    /// whole.
     pub fn lose(&mut self)
         ensures down { self.old.writer.up ≡ true
             → self.new.writer ≡ writer_after_down self.old.writer }

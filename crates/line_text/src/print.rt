@@ -59,11 +59,11 @@ pub fn print_line(point: &Point, line: &mut LineBuf)
     let bytes = &mut line.bytes;
     bytes.clear();
     append(bytes, point.name.text().as_bytes());
-    append(bytes, b" ");
+    bytes.push_reserved(b' ');
     append_value(bytes, point.value);
-    append(bytes, b" ");
+    bytes.push_reserved(b' ');
     append(bytes, Buffer::new().format(point.time).as_bytes());
-    append(bytes, b"\n");
+    bytes.push_reserved(b'\n');
 }
 
 /// How many bytes the line of a datapoint has, with its newline.

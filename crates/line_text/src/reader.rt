@@ -139,8 +139,8 @@ impl LineReader {
         Ok(end_of(self.closed))
     }
 
-    /// What is kept of a connection that is not closed: the bytes behind its last newline. Another reader that is fed these first
-    /// reads on where this one is.
+    /// What is kept of a connection that is not closed: the bytes behind its last newline. Another reader that is fed these
+    /// first reads on where this one is.
     pub fn rest(&self) -> &[u8]
         ensures { result.now ≡ self.now.rest }
     {

@@ -21,8 +21,8 @@ use relay_base::NoMemory;
 use std::alloc::Global;
 use std::sync::Mutex;
 
-/// A set of queues that has ended, without their datapoints: what each had counted and recorded. It can settle when there is time,
-/// and frees what the queues had then.
+/// A set of queues that has ended, without their datapoints: what each had counted and recorded. It can settle when there is
+/// time, and frees what the queues had then.
 #[derive(Drop)]
 pub struct EndedSet {
     name: u64,
@@ -54,7 +54,8 @@ impl EndedSet {
         self.counts.as_slice()
     }
 
-    /// Takes what the queue of the last destination held of which that was not taken, if there is one: the destinations in reverse.
+    /// Takes what the queue of the last destination held of which that was not taken, if there is one: the destinations in
+    /// reverse.
     pub fn take_points(&mut self) -> Option<QueuedPoints> {
         self.points.pop()
     }

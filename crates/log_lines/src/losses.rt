@@ -77,8 +77,8 @@ impl LossCounts {
         }
     }
 
-    /// These counts, behind those of runs that have ended. The system counts what it drops at a socket since the socket was made,
-    /// and the socket is that of all runs.
+    /// These counts, behind those of runs that have ended. The system counts what it drops at a socket since the socket was
+    /// made, and the socket is that of all runs.
     pub fn behind(&self, earlier: &LossCounts) -> LossCounts
         ensures { result ≡ losses_behind earlier.now self.now }
     {

@@ -5,7 +5,7 @@ ghost use Rattle.dest_writer.specs.Counting.{outcome_of_kind};
 ghost use Rattle.mio_loops.specs.Exchange.{moved, not_moved};
 
 use std::io;
-use std::io::ErrorKind;
+use std::io::{ErrorKind, Read};
 
 /// How many milliseconds a connection has to ask, as many to take the answer, and as many to close then.
 pub const PATIENCE_MS: u64 = 1_000;
@@ -61,4 +61,17 @@ fn not_moved(kind: ErrorKind) -> Transfer
         ErrorKind::WouldBlock => Transfer::Blocked,
         _ => Transfer::Failed,
     }
+}
+
+/// Reads into this room, and drops, what a peer sends that has its answer. Returns whether the connection is over: the peer
+/// has closed it, or it failed.
+pub fn read_away<S: Read>(stream: &mut S, room: &mut [u8]) -> bool {
+    for _ in 0..MOST_TRIES {
+        match Transfer::of(stream.read(room)) {
+            Transfer::Bytes(_) => {}
+            Transfer::Blocked => return false,
+            Transfer::End | Transfer::Failed => return true,
+        }
+    }
+    false
 }

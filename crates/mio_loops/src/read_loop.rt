@@ -21,7 +21,7 @@ ghost use Rattle.queue_records.specs.Offers.{IsRefusedBy};
 use crate::admit_fault::AdmitFault;
 use crate::input_log::InputLog;
 use crate::read_totals::{ReadTotals, totals_of};
-use crate::read_turn::serve_due_ones;
+use crate::ready_tokens::marks_of;
 use crate::serve::{MOST_READ, serve, stays};
 use crate::served::Served;
 use crate::token::Token;
@@ -235,7 +235,12 @@ impl<S: Read + Drop> ReadLoop<S> {
         ensures dests { plan.old.destinations ≤ length (D.record_of door.new).totals }
         ensures plan { plan.new ≡ plan.old }
     {
-        serve_due_ones(self, ready, plan, door, moment)
+        let marks = marks_of(ready);
+        let mut report = TurnReport::new();
+        for token in 0..self.tokens() {
+            report.count(self.serve_if_due(Token(token), marks[token], plan, door, moment));
+        }
+        report
     }
 
     /// The bytes of the connection of a token behind its last whole line or frame: what its next reader is to be fed first.
@@ -271,7 +276,7 @@ impl<S: Read + Drop> ReadLoop<S> {
     }
 
     /// How many tokens there are.
-    pub(crate) fn tokens(&self) -> usize
+    fn tokens(&self) -> usize
         ensures count { result ≡ MOST_CONNECTIONS }
         ensures no_more { (token : ℕ) → is_held self.now token ≡ true → token < result }
     {
@@ -279,7 +284,7 @@ impl<S: Read + Drop> ReadLoop<S> {
     }
 
     /// Serves the connection of a token, if it is due, and returns how.
-    pub(crate) fn serve_if_due<D: Door>(
+    fn serve_if_due<D: Door>(
         &mut self,
         token: Token,
         ready: bool,

@@ -19,8 +19,8 @@ impl ConnectionRoom {
         }
     }
 
-    /// So many descriptors were kept for other uses, and from now on so many are. Connections that have a place keep it. One thread
-    /// at most calls it.
+    /// So many descriptors were kept for other uses, and from now on so many are. Connections that have a place keep it. One
+    /// thread at most calls it.
     pub fn keep_for_others(&self, before: usize, now: usize) {
         let most = self.most.load(Ordering::SeqCst);
         let all = most.saturating_add(before);

@@ -9,8 +9,8 @@ use std::net::IpAddr;
 use std::sync::atomic::{AtomicBool, Ordering};
 use std::sync::{Arc, Mutex};
 
-/// A connection that a receiver hands over: its socket, the address of its producer, the bytes that whoever reads on is fed first,
-/// its place, if places are limited, and the milliseconds at which it sent its last whole line or frame, or was taken.
+/// A connection that a receiver hands over: its socket, the address of its producer, the bytes that whoever reads on is fed
+/// first, its place, if places are limited, and the milliseconds at which it sent its last whole line or frame, or was taken.
 #[derive(Drop)]
 pub struct HandedStream {
     pub(crate) stream: TcpStream,
@@ -20,8 +20,8 @@ pub struct HandedStream {
     pub(crate) last_unit: u64,
 }
 
-/// Where a receiver puts the connections that it hands over, for the thread that stopped it. A receiver whose run is not the last
-/// one hands them over; otherwise it closes them.
+/// Where a receiver puts the connections that it hands over, for the thread that stopped it. A receiver whose run is not the
+/// last one hands them over; otherwise it closes them.
 #[derive(Drop)]
 pub struct HandedStreams {
     is_open: AtomicBool,

@@ -5,8 +5,8 @@ ghost use Rattle.std.specs.Prelude.{◌≡◌, ◌<◌};
 use crate::accept::Accept;
 use mio_loops::{MOST_CONNECTIONS, ReadLoop, Token};
 
-/// If the receiver was stopped, gives the listener each connection that is held, with the bytes that were not read as whole lines
-/// or frames.
+/// If the receiver was stopped, gives the listener each connection that is held, with the bytes that were not read as whole
+/// lines or frames.
 pub(crate) fn hand_over_if<A: Accept>(
     is_stopped: bool,
     listener: &mut A,

@@ -131,8 +131,8 @@ impl HeldStream {
         }
     }
 
-    /// Gives the connection up for another reader, which is fed these bytes first: those of its unfinished line or frame. It is no
-    /// loss. If out of memory for them, the connection is closed, and that is one.
+    /// Gives the connection up for another reader, which is fed these bytes first: those of its unfinished line or frame. It is
+    /// no loss. If out of memory for them, the connection is closed, and that is one.
     pub(crate) fn hand_over(self, rest: &[u8], peer: IpAddr) -> Option<HandedStream> {
         let HeldStream {
             stream,

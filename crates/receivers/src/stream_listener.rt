@@ -183,8 +183,8 @@ impl StreamListener {
         Ok(Arc::try_clone(&self.connections.control)?)
     }
 
-    /// Takes first the connections that are there, which the receiver of an ended run handed over, as if they were new; but the bytes
-    /// that were not read come first. Once the receiver is stopped, its connections go there, if they are handed over.
+    /// Takes first the connections that are there, which the receiver of an ended run handed over, as if they were new; but the
+    /// bytes that were not read come first. Once the receiver is stopped, its connections go there, if they are handed over.
     pub fn set_handed(&mut self, handed: Arc<HandedStreams>) {
         let mut resumed = handed.take(self.alloc);
         resumed.reverse();
@@ -192,7 +192,8 @@ impl StreamListener {
         self.handed = Some(handed);
     }
 
-    /// Takes the next connection that was handed over, if there is one, and watches it under the token. Without a token it is closed.
+    /// Takes the next connection that was handed over, if there is one, and watches it under the token. Without a token it is
+    /// closed.
     fn resume(&mut self, token: Option<Token>) -> AcceptOutcome<HeldStream> {
         let Some(handed) = self.resumed.pop() else {
             return AcceptOutcome::Nothing;

@@ -37,8 +37,8 @@ const PAUSE_MS: u64 = 1_000;
 /// How many milliseconds pass between two looks at receivers that close.
 const CLOSING_PAUSE_MS: u64 = 1;
 
-/// How many milliseconds pass between two looks at what remains to be sent.
-const DRAIN_PAUSE_MS: u64 = 10;
+/// How many milliseconds pass between two looks at what remains to be sent. Meanwhile no port is open.
+const DRAIN_PAUSE_MS: u64 = 1;
 
 /// How many milliseconds pass between two looks at what remains to be written to files.
 const SPOOL_PAUSE_MS: u64 = 1;
@@ -80,8 +80,8 @@ impl<'x, B: Set, R: Wait> Answers<R> for ReportSource<'x, B> {
     }
 }
 
-/// The admin port of a relay, with the ports of the first thread, the controls of the receivers, the output that says `ready`, who
-/// reads files for a reload, the folder for what is not sent, and what is still to do for the run before, if there was one.
+/// The admin port of a relay, with the ports of the first thread, the controls of the receivers, the output that says `ready`,
+/// who reads files for a reload, the folder for what is not sent, and what is still to do for the run before, if there was one.
 #[derive(Drop)]
 pub(crate) struct AdminPort<'p, B: Set, R, W, F, K> {
     pub(crate) rt: &'p R,
@@ -97,8 +97,8 @@ pub(crate) struct AdminPort<'p, B: Set, R, W, F, K> {
     pub(crate) next: Option<PreparedRun>,
 }
 
-/// What the first thread has still to do for the run before, once this one has begun: the connection that waits to be told of it,
-/// and the record.
+/// What the first thread has still to do for the run before, once this one has begun: the connection that waits to be told of
+/// it, and the record.
 #[derive(Drop)]
 pub(crate) struct RunBefore {
     pub(crate) waiting: Option<u64>,
@@ -141,7 +141,8 @@ impl<'p, B: Set, R: RelayRuntime, W: Write, F: ReloadSource, K: Recorder> AdminP
         }
     }
 
-    /// Ends the run before, if there was one: it settles and is recorded, the log says how it settled, and what it held is freed.
+    /// Ends the run before, if there was one: it settles and is recorded, the log says how it settled, and what it held is
+    /// freed.
     fn end_before(&mut self, alloc: Global) {
         if let Some(record) = self.before.record.take() {
             if let Ok(text) = record.finish(alloc, self.recorder) {
@@ -241,7 +242,12 @@ impl<B: Set, R: RelayRuntime, W: Write, F: ReloadSource, K: Recorder> FirstThrea
 
     fn close_receivers(&mut self, rt: &R, alloc: Global) {
         self.ports.shut();
+        spool_away(self.relay);
         answer_while_closing(rt, alloc, &mut self.ports.admin, self.relay, self.controls);
+    }
+
+    fn stop_datagrams(&self) {
+        self.relay.orders.stop_datagrams();
     }
 
     fn wake_receivers(&self) {
@@ -283,6 +289,28 @@ fn refuse_reload(alloc: Global, listener: &mut AdminListener, millis: u64) {
         listener.refuse_reload(asked.connection, millis);
         drop(asked);
     }
+}
+
+/// If files keep what is not sent, has the senders begin with the files of destinations that are not connected. So most of what
+/// waits for these is written while the ports are open.
+fn spool_away<B: Set>(relay: &Relay<B>) {
+    if relay.shape.is_spooled {
+        relay.orders.spool_to(away_of(relay));
+        relay.gate.wake_all();
+    }
+}
+
+/// The destinations that are not connected, a bit each.
+fn away_of<B: Set>(relay: &Relay<B>) -> u64 {
+    let mut away: u64 = 0;
+    let mut bit: u64 = 1;
+    for notes in relay.noted().notes {
+        if !notes.status(0, true).is_up {
+            away |= bit;
+        }
+        bit = bit.wrapping_mul(2);
+    }
+    away
 }
 
 /// Answers commands while the receivers close: they read what was sent to them, for half a second at most.

@@ -99,8 +99,8 @@ fn take_descriptors<R: Net>(rt: &R, most: usize, taken: &mut Vec<Poll>) -> Resul
 }
 
 /// The room that limits how many connections the receivers hold together, so that those descriptors are left that the relay
-/// needs for all else. If all connections that the receivers may hold leave enough, nothing is limited. Refuses (`Listen` of the
-/// admin port) fewer than [`descriptors_needed`]: the relay could be deaf then, or not be stopped.
+/// needs for all else. If all connections that the receivers may hold leave enough, nothing is limited. Refuses (`Listen` of
+/// the admin port) fewer than [`descriptors_needed`]: the relay could be deaf then, or not be stopped.
 pub(crate) fn room_of<R: Net>(
     rt: &R,
     alloc: Global,

@@ -24,8 +24,8 @@ use run_state::RunNotes;
 use std::alloc::Global;
 use std::sync::Arc;
 
-/// What a run leaves that another one follows: what its record is made of, and, by its own places, what was noted, what is left for
-/// each destination, and the connections of each receiver.
+/// What a run leaves that another one follows: what its record is made of, and, by its own places, what was noted, what is left
+/// for each destination, and the connections of each receiver.
 #[derive(Drop)]
 pub(crate) struct EndedRun {
     pub(crate) record: EndedRecord,
@@ -35,8 +35,8 @@ pub(crate) struct EndedRun {
     pub(crate) streams: Vec<Arc<HandedStreams>>,
 }
 
-/// What the record of a run is made of: its number, its configuration and its numbers, its queues without their datapoints, and what
-/// its threads recorded and logged, with the fault of one, if one had a fault.
+/// What the record of a run is made of: its number, its configuration and its numbers, its queues without their datapoints, and
+/// what its threads recorded and logged, with the fault of one, if one had a fault.
 #[derive(Drop)]
 pub(crate) struct EndedRecord {
     pub(crate) number: u64,
@@ -47,7 +47,8 @@ pub(crate) struct EndedRecord {
 }
 
 impl EndedRecord {
-    /// Settles the run, gives the recorder, if there is one, what it left, and frees that. Returns the lines of the log on the run.
+    /// Settles the run, gives the recorder, if there is one, what it left, and frees that. Returns the lines of the log on the
+    /// run.
     pub(crate) fn finish<K: Recorder>(
         self,
         alloc: Global,
@@ -84,8 +85,8 @@ impl EndedRecord {
     }
 }
 
-/// Takes a relay apart whose threads have ended, and recorded this: each destination's queue is behind what its sender had in hand.
-/// There is room for what that leaves.
+/// Takes a relay apart whose threads have ended, and recorded this: each destination's queue is behind what its sender had in
+/// hand. There is room for what that leaves.
 pub(crate) fn ended_of<B: Set>(
     alloc: Global,
     relay: Relay<B>,
@@ -128,8 +129,8 @@ pub(crate) fn ended_of<B: Set>(
     }
 }
 
-/// Puts the datapoints of a destination's queue, the last one that was not taken yet, behind what is left for it, and notes what was
-/// counted.
+/// Puts the datapoints of a destination's queue, the last one that was not taken yet, behind what is left for it, and notes
+/// what was counted.
 fn add_queue(
     alloc: Global,
     set: &mut EndedSet,
@@ -154,8 +155,8 @@ fn add_queue(
     }
 }
 
-/// Puts the datapoints of a queue behind what is left for its destination. Returns how many were dropped: those for which there was
-/// no room, or all if a sender that had ended early left nothing and there is no memory for what sends them.
+/// Puts the datapoints of a queue behind what is left for its destination. Returns how many were dropped: those for which there
+/// was no room, or all if a sender that had ended early left nothing and there is no memory for what sends them.
 fn add_points(alloc: Global, left: &mut LeftDest, points: QueuedPoints, shape: &Shape) -> usize
     ensures text { (kept : ℕ) × (text_left left.new.rest
         ≡ text_left left.old.rest ++ printed_lines (take kept points))

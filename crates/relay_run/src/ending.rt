@@ -1,4 +1,5 @@
-//! How a run ends once the first thread has served: the receivers, then the senders, at last those that watch.
+//! How a run ends once the first thread has served: the receivers, of datagrams last, then the senders, at last those that
+//! watch.
 //!
 //! If another run follows, nothing is closed and nothing is waited for: what the threads hold goes on there.
 
@@ -56,9 +57,11 @@ pub(crate) fn end_threads<R: Threads + Wait + Clock, O: Send + Drop, M: FirstThr
     let is_handing = first.is_followed() || served.is_err() && first.follows();
     let server = end_server(rt, signals, servers, is_handing);
     close_if(rt, alloc, is_last, first);
-    signals.stop_receivers();
-    first.wake_receivers();
-    let (receivers, are_kept) = join_all(rt, alloc, receivers);
+    if is_handing {
+        // No port is shut: its receiver ends with the others.
+        first.stop_datagrams();
+    }
+    let (receivers, are_kept) = end_receivers(rt, alloc, signals, receivers, first);
     let served = served_if(are_kept, served);
     send_rest_if(rt, alloc, is_last && served.is_ok(), first);
     signals.stop_senders();
@@ -113,6 +116,28 @@ fn join_last<R: Threads + Wait, T: Send + Drop>(rt: &R, children: Vec<JoinHandle
     end
 }
 
+/// Ends the receivers: those of connections, and once they have ended the one of datagrams. If there is one, it is the last.
+/// Returns how they ended, in order, and whether there was memory to keep all of that.
+fn end_receivers<R: Threads + Wait + Clock, M: FirstThread<R>>(
+    rt: &R,
+    alloc: Global,
+    signals: &Signals,
+    receivers: Vec<JoinHandle<ThreadEnd<DoorRecord, FedLog>>>,
+    first: &M,
+) -> (Vec<ThreadEnd<DoorRecord, FedLog>>, bool) {
+    let mut receivers = receivers;
+    let last = receivers.pop();
+    signals.stop_receivers();
+    first.wake_receivers();
+    let (mut ends, mut are_kept) = join_all(rt, alloc, receivers);
+    first.stop_datagrams();
+    first.wake_receivers();
+    if let Some(last) = last {
+        are_kept = ends.push(last.join(rt)).is_ok() && are_kept;
+    }
+    (ends, are_kept)
+}
+
 /// Closes the receivers if the run went on until it was stopped, and none follows.
 fn close_if<R: Wait + Clock, M: FirstThread<R>>(
     rt: &R,
@@ -128,7 +153,8 @@ fn close_if<R: Wait + Clock, M: FirstThread<R>>(
     }
 }
 
-/// If the run went on until it was stopped, and none follows, lets the senders send what is left, and write to files what is left then.
+/// If the run went on until it was stopped, and none follows, lets the senders send what is left, and write to files what is
+/// left then.
 fn send_rest_if<R: Wait + Clock, M: FirstThread<R>>(
     rt: &R,
     alloc: Global,

@@ -41,7 +41,10 @@ pub(crate) trait FirstThread<R: Wait + Clock> {
         ensures same { which self.new ≡ which self.old }
         ensures nothing { written self.new ≡ written self.old };
 
-    /// Ends the waits of the receivers, so that they see their stop flag.
+    /// Tells the receiver of datagrams to stop, if there is one.
+    fn stop_datagrams(&self);
+
+    /// Ends the waits of the receivers, so that they see their stop flags.
     fn wake_receivers(&self);
 
     /// Waits, once the receivers have ended, for as long as the senders are to go on, and notes for whom it does not wait.

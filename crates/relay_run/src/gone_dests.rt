@@ -8,8 +8,8 @@ use relay_watchers::GoneDest;
 use run_state::{GoneEnd, GoneNotes, RestNotes};
 use std::alloc::Global;
 
-/// The destinations that the runs before had and this one has not, as far as something is left for them: what that is, until which
-/// milliseconds it is sent, and what becomes of it. All lists are in the same order.
+/// The destinations that the runs before had and this one has not, as far as something is left for them: what that is, until
+/// which milliseconds it is sent, and what becomes of it. All lists are in the same order.
 #[derive(Drop)]
 pub(crate) struct GoneDests {
     pub(crate) dests: Vec<Dest>,

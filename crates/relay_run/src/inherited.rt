@@ -12,8 +12,9 @@ use spool::SpoolFiles;
 use std::alloc::Global;
 use std::sync::Arc;
 
-/// What a run begins with that ended runs left to it: what was noted, what is left for each of its destinations, in their order,
-/// the connections of each receiver, the destinations that are gone, what the log has reported of receivers, and its first lines.
+/// What a run begins with that ended runs left to it: what was noted, what is left for each of its destinations, in their
+/// order, the connections of each receiver, the destinations that are gone, what the log has reported of receivers, and its
+/// first lines.
 #[derive(Drop)]
 pub(crate) struct Inherited {
     pub(crate) notes: RunNotes,

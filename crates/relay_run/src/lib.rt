@@ -12,8 +12,10 @@
 mod admin;
 mod closing;
 mod counted_connector;
+mod datagram_room;
 mod descriptors;
 mod dest_slots;
+mod end_orders;
 mod end_room;
 mod ended_run;
 mod ending;

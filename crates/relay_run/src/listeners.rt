@@ -3,6 +3,7 @@
 ghost use Rattle.std.specs.Prelude.{◌≡◌, true, IfErr};
 ghost use Rattle.relay_run.specs.Running.{is_start_fault};
 
+use crate::datagram_room::ask_for_room;
 use crate::descriptors::{room_of, share_room};
 use crate::options::{RunOptions, StatusOptions};
 use admin_port::AdminListener;
@@ -317,14 +318,17 @@ fn bind_stream<R: Net>(
     }
 }
 
-/// Binds a port for datagrams.
+/// Binds a port for datagrams, and asks for room for those that wait there.
 fn bind_datagrams<R: Net>(rt: &R, interface: &str, port: u16) -> Result<UdpSocket, RelayFault>
     ensures { IfErr result (λ fault. fault ≡ RelayFault.Listen ListenRole.Udp) }
 {
     let role = ListenRole::Udp;
     let address = address_of(interface, port, role)?;
     match UdpSocket::bind(rt, address) {
-        Ok(socket) => Ok(socket),
+        Ok(socket) => {
+            ask_for_room(rt, &socket);
+            Ok(socket)
+        }
         Err(_) => Err(RelayFault::Listen { role }),
     }
 }

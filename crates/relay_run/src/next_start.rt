@@ -20,8 +20,8 @@ use run_state::{RestNotes, RunNotes};
 use std::alloc::Global;
 use std::mem;
 
-/// The places of the destinations of a run that follows another one: empty lists with room for all. Once they are there, nothing
-/// that is left can be lost for want of memory.
+/// The places of the destinations of a run that follows another one: empty lists with room for all. Once they are there,
+/// nothing that is left can be lost for want of memory.
 #[derive(Drop)]
 struct NewPlaces {
     slots: DestSlots,
@@ -29,11 +29,13 @@ struct NewPlaces {
     earlier: Vec<EarlierCounts>,
     rests: Vec<RestNotes>,
     gone: GoneDests,
-    // The destinations of the run before, and then those that were gone before it: those that are gone now, if something is left.
+    // The destinations of the run before, and then those that were gone before it: those that are gone now, if something is
+    // left.
     parting: Vec<Option<PartingDest>>,
 }
 
-/// What a run begins with that follows this one, at these milliseconds. Refuses if out of memory; what is left is as it was then.
+/// What a run begins with that follows this one, at these milliseconds. Refuses if out of memory; what is left is as it was
+/// then.
 pub(crate) fn start_after(
     alloc: Global,
     ended: &mut EndedRun,
@@ -101,8 +103,8 @@ fn places_of(
     })
 }
 
-/// The destinations of the run that has ended which the next one does not have, and those that were gone before and are not back,
-/// by place: the former until `--drain` is over from now on, the latter as before.
+/// The destinations of the run that has ended which the next one does not have, and those that were gone before and are not
+/// back, by place: the former until `--drain` is over from now on, the latter as before.
 fn parting_of(
     alloc: Global,
     ended: &EndedRun,
@@ -143,8 +145,8 @@ fn add_parting<F: Fn(usize) -> u64>(
     Ok(())
 }
 
-/// Gives each destination of the next run what is left for it: of the run that has ended, or as a destination that was gone, or its
-/// files. It takes no memory.
+/// Gives each destination of the next run what is left for it: of the run that has ended, or as a destination that was gone, or
+/// its files. It takes no memory.
 fn inherit(
     alloc: Global,
     ended: &mut EndedRun,

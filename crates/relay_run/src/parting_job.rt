@@ -1,5 +1,6 @@
 //! The work of the thread that sends to destinations that are gone.
 
+use crate::end_orders::EndOrders;
 use crate::gone_dests::GoneDests;
 use crate::rest_connector::{RestConnector, SenderRests};
 use crate::sender_lefts::Share;
@@ -22,11 +23,13 @@ const MOST_WAIT_MS: u64 = 10;
 /// How many milliseconds the stores have to read to their end once nothing more is sent.
 const LONGEST_END_MS: u64 = 1_000;
 
-/// A sender to destinations that are gone, as long as `--drain` allows: their connector, the places for their files and for what is
-/// left, and since when the milliseconds of a run count.
+/// A sender to destinations that are gone, as long as `--drain` allows: their connector, the places for their files and for
+/// what is left, and since when the milliseconds of a run count.
 #[derive(Drop)]
 pub(crate) struct PartingJob<'x, R: Wait + SpoolDisk + Drop> {
     pub(crate) gone: &'x GoneDests,
+    // Of the run's own destinations: none of these.
+    pub(crate) orders: &'x EndOrders,
     pub(crate) connector: StoreConnector<'x, R>,
     pub(crate) spool: SenderSpool<'x, StoreStream<'x>>,
     pub(crate) rests: SenderRests<'x, SpoolSink<'x, StoreStream<'x>, R>>,
@@ -44,6 +47,7 @@ impl<'x, R: Wait + Clock + Net + SpoolDisk + Copy + Drop> ThreadWork<R, ()> for 
     fn work(self, rt: &R, alloc: Global, signals: &Signals) {
         let PartingJob {
             gone,
+            orders,
             mut connector,
             mut spool,
             mut rests,
@@ -59,7 +63,8 @@ impl<'x, R: Wait + Clock + Net + SpoolDisk + Copy + Drop> ThreadWork<R, ()> for 
         let times = SystemTimes::since(rt, began);
         share.take_lefts(&mut connector, &mut spool, &mut rests, times.millis());
         let slots = &gone.slots;
-        let connector = SpoolConnector::new(connector, *rt, spool, slots, signals).without_files();
+        let connector =
+            SpoolConnector::new(connector, *rt, spool, slots, signals, orders).without_files();
         let mut connector = RestConnector::new(alloc, connector, rests, slots, signals, 0, 1);
         send_until_over(rt, &mut connector, gone, &times, signals);
         end_connections(rt, &mut connector, &times, signals);

@@ -40,6 +40,7 @@ pub(crate) fn add_parting<'x, B: Set, R: RelayRuntime>(
     };
     let job = PartingJob {
         gone,
+        orders: &relay.orders,
         connector,
         spool,
         rests,

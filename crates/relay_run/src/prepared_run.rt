@@ -24,9 +24,9 @@ pub(crate) struct PreparedRun {
     pub(crate) room: EndRoom,
 }
 
-/// A run that is to follow the one that runs: its configuration, which was read and checked; its ports; the totals of its queues;
-/// where each of its destinations is among those of the run, and among those that are gone; the files of the others; the line of
-/// the log; and the connection that waits for the answer.
+/// A run that is to follow the one that runs: its configuration, which was read and checked; its ports; the totals of its
+/// queues; where each of its destinations is among those of the run, and among those that are gone; the files of the others;
+/// the line of the log; and the connection that waits for the answer.
 #[derive(Drop)]
 pub(crate) struct NextPlan {
     pub(crate) configuration: RunConfiguration,
@@ -39,8 +39,8 @@ pub(crate) struct NextPlan {
     pub(crate) connection: u64,
 }
 
-/// Reads the files that a request names, and makes ready what a run by them needs before the one that runs ends. Refuses a fault of
-/// the files, another setting of a port, and what the system refuses; then nothing has changed.
+/// Reads the files that a request names, and makes ready what a run by them needs before the one that runs ends. Refuses a
+/// fault of the files, another setting of a port, and what the system refuses; then nothing has changed.
 pub(crate) fn prepared_by<B: Set, R: RelayRuntime, F: ReloadSource>(
     rt: &R,
     alloc: Global,

@@ -3,6 +3,7 @@
 ghost use Rattle.std.specs.Prelude.{◌≡◌, ◌<◌, ◌≤◌, true, length, Some, IfErr};
 ghost use Rattle.relay_run.specs.Running.{fault_of_plan, is_start_fault};
 
+use crate::end_orders::EndOrders;
 use crate::listeners::BoundPort;
 use crate::ready_datagrams::ReadyDatagrams;
 use crate::runtime::SystemTables;
@@ -100,8 +101,8 @@ impl Inlet {
         }
     }
 
-    /// The connections that the receiver of an ended run handed over come first; and those that it holds go there if another run
-    /// follows.
+    /// The connections that the receiver of an ended run handed over come first; and those that it holds go there if another
+    /// run follows.
     pub(crate) fn set_handed(&mut self, handed: &Arc<HandedStreams>) -> Result<(), NoMemory> {
         let handed = Arc::clone(handed)?;
         match self {
@@ -181,6 +182,7 @@ pub(crate) struct ReceiverJob<'d, B: Set, R: Wait> {
     configuration: &'d RunConfiguration,
     door: LockedDoor<'d, B, R, WakeGate>,
     share: Share<'d>,
+    orders: &'d EndOrders,
     is_recorded: bool,
     began: Option<Instant>,
     ghost few: { receiver < 8 },
@@ -189,13 +191,15 @@ pub(crate) struct ReceiverJob<'d, B: Set, R: Wait> {
 }
 
 impl<'d, B: Set, R: Wait> ReceiverJob<'d, B, R> {
-    /// The receiver of a number. The door has all destinations of the configuration. Its listener may be shared.
+    /// The receiver of a number. The door has all destinations of the configuration. Its listener may be shared, and if it
+    /// receives datagrams, these orders say when it stops.
     pub(crate) fn new(
         inlet: Inlet,
         receiver: usize,
         configuration: &'d RunConfiguration,
         door: LockedDoor<'d, B, R, WakeGate>,
         share: Share<'d>,
+        orders: &'d EndOrders,
         began: Option<Instant>,
     ) -> ReceiverJob<'d, B, R>
         requires few { receiver < MOST_RECEIVERS }
@@ -208,6 +212,7 @@ impl<'d, B: Set, R: Wait> ReceiverJob<'d, B, R> {
             configuration,
             door,
             share,
+            orders,
             is_recorded: false,
             began,
         }
@@ -233,7 +238,7 @@ impl<'d, B: Set, R: Wait + Clock> ThreadWork<R, ThreadEnd<DoorRecord, FedLog>>
     }
 }
 
-/// Makes the plan, and receives until the receivers' stop flag is set, or a fault.
+/// Makes the plan, and receives until the receiver's stop flag is set, or a fault.
 fn receive_until_stopped<B: Set, R: Wait + Clock>(
     job: ReceiverJob<'_, B, R>,
     rt: &R,
@@ -281,7 +286,7 @@ fn receive_nothing<'d, B: Set, R: Wait>(
     }
 }
 
-/// Receives until the receivers' stop flag is set, or a fault, by a plan of the job's configuration.
+/// Receives until the receiver's stop flag is set, or a fault, by a plan of the job's configuration.
 fn receive_by_plan<'d, B: Set, R: Wait + Clock>(
     rt: &R,
     alloc: Global,
@@ -296,6 +301,7 @@ fn receive_by_plan<'d, B: Set, R: Wait + Clock>(
         receiver,
         door,
         share,
+        orders,
         began,
         ..
     } = job;
@@ -327,7 +333,7 @@ fn receive_by_plan<'d, B: Set, R: Wait + Clock>(
         ),
         Inlet::Datagrams(socket) => {
             let socket = ReadyDatagrams::new(socket, BeginNote::new(signals));
-            let stop = signals.receivers();
+            let stop = orders.datagrams();
             receive_datagrams(rt, alloc, socket, receiver, plan, door, &times, stop)
         }
     }

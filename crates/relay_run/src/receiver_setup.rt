@@ -152,6 +152,7 @@ fn receiver_job<'x, B: Set, R: RelayRuntime>(
         &relay.configuration,
         door,
         share,
+        &relay.orders,
         relay.began,
     );
     job.set_recorded(relay.shape.is_recorded);

@@ -4,6 +4,7 @@ ghost use Rattle.std.specs.Prelude.{◌≡◌, ◌≤◌, true, length, IfErr};
 ghost use Rattle.relay_run.specs.Running.{is_start_fault};
 
 use crate::dest_slots::DestSlots;
+use crate::end_orders::EndOrders;
 use crate::gone_dests::GoneDests;
 use crate::inherited::Inherited;
 use crate::listeners::{BoundPort, FirstPorts, Ports};
@@ -28,8 +29,9 @@ use std::time::Instant;
 pub(crate) const NAME: u64 = 1;
 
 /// What a run is made of, and its threads borrow: its configuration and its numbers, its queues, the gate that wakes the
-/// senders, what the threads share beside these, what is left for destinations between two runs, what is left for those that are
-/// gone, with what wakes their sender, the connections that go from one run to the next, and what the first thread has for the log.
+/// senders, and what the threads share beside these; what some of them are told at the end; what is left for destinations
+/// between two runs, and for those that are gone, with what wakes their sender; the connections that go from one run to the
+/// next; and what the first thread has for the log.
 #[derive(Drop)]
 pub(crate) struct Relay<B: Set> {
     pub(crate) configuration: RunConfiguration,
@@ -37,6 +39,7 @@ pub(crate) struct Relay<B: Set> {
     pub(crate) queues: Queues<B>,
     pub(crate) gate: WakeGate,
     pub(crate) state: RunState,
+    pub(crate) orders: EndOrders,
     pub(crate) slots: DestSlots,
     pub(crate) gone: GoneDests,
     pub(crate) gone_gate: WakeGate,
@@ -82,8 +85,8 @@ pub(crate) struct Seats<B: Set> {
     pub(crate) outlets: Vec<OutletSeat<B>>,
 }
 
-/// What a relay has beside its queues: the gate that wakes the senders, what its threads share, what each sender waits with, and
-/// what that to destinations that are gone does.
+/// What a relay has beside its queues: the gate that wakes the senders, what its threads share, what each sender waits with,
+/// and what that to destinations that are gone does.
 #[derive(Drop)]
 struct SharedParts {
     gate: WakeGate,
@@ -101,8 +104,8 @@ pub(crate) struct RefusedStart {
 }
 
 impl<B: Set> Relay<B> {
-    /// Opens a relay, whose log goes to this output, if it has one. Refuses a fault of the start, and gives back what ended runs
-    /// left.
+    /// Opens a relay, whose log goes to this output, if it has one. Refuses a fault of the start, and gives back what ended
+    /// runs left.
     pub(crate) fn open<R: Net, L: Drop>(
         rt: &R,
         alloc: Global,
@@ -233,6 +236,7 @@ fn open_relay<B: Set, L: Drop>(
             queues,
             gate,
             state: state.with_notes(notes),
+            orders: EndOrders::new(),
             slots,
             gone,
             gone_gate,
@@ -256,8 +260,8 @@ fn open_relay<B: Set, L: Drop>(
     }
 }
 
-/// The gate that wakes the senders of a run of this shape, what its threads share, the readiness of each sender, and that of the
-/// sender to destinations that are gone, if there are such.
+/// The gate that wakes the senders of a run of this shape, what its threads share, the readiness of each sender, and that of
+/// the sender to destinations that are gone, if there are such.
 fn shared_of(
     rt: &impl Net,
     alloc: Global,

@@ -6,8 +6,8 @@ use std::alloc::Global;
 
 /// Who reads the files of a configuration for a reload.
 pub trait ReloadSource {
-    /// The configuration of the files that a request names (`admin_client::reload_files_in`), or, if it names none, of those that
-    /// the relay began with, read again. Refuses what `check` refuses.
+    /// The configuration of the files that a request names (`admin_client::reload_files_in`), or, if it names none, of those
+    /// that the relay began with, read again. Refuses what `check` refuses.
     fn read(&self, alloc: Global, request: &[u8]) -> Result<RunConfiguration, RefusedReload>;
 }
 

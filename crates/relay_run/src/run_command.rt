@@ -4,8 +4,9 @@
 //! share; *running* is `serve_if`, beside the threads that `run_threads` started; *ending* is `end_threads`; *settling* is
 //! `Queues::settle`; and `write_end` writes *what is left*. `run_to_end` has the last four.
 //!
-//! A reload ends a run, and begins another in the same process, over the same sockets: `run_all` is the loop. `prepared_by` makes the
-//! next run ready while the one before goes on; `ended_of` takes that apart, and `start_after` has what the next begins with.
+//! A reload ends a run, and begins another in the same process, over the same sockets: `run_all` is the loop. `prepared_by`
+//! makes the next run ready while the one before goes on; `ended_of` takes that apart, and `start_after` has what the next
+//! begins with.
 
 ghost use Rattle.std.specs.Prelude.{◌≡◌, ◌==◌, ◌≤◌, true, length, IfOk, IfErr};
 ghost use Rattle.std.specs.Io.KnownBytes.{Appends, Keeps};
@@ -39,6 +40,7 @@ use relay_watchers::{LogEnd, StatusServer};
 use std::alloc::Global;
 use std::io::Write;
 use std::marker::Brand;
+use std::mem;
 use std::rt::Clock;
 use std::time::Instant;
 
@@ -74,10 +76,10 @@ use std::time::Instant;
 /// the queues settled (`finished_run::FinishedRun`). It gets nothing if the run ends before it settles. The line, the status and the
 /// faults of the run do not depend on it.
 ///
-/// `reload` is answered once the files have been read: why the relay goes on as it was; or `reloaded`, once the next run has begun.
-/// That has the same ports; each connection goes on where its reader was, and each destination that stays is sent first what the
-/// run before held for it. What was held for one that is gone is sent for as long as `--drain` says, and then written to its file, or
-/// lost. The line that says how a run settled which another follows goes to the log.
+/// `reload` is answered once the files have been read: why the relay goes on as it was; or `reloaded`, once the next run has
+/// begun. That has the same ports; each connection goes on where its reader was, and each destination that stays is sent first
+/// what the run before held for it. What was held for one that is gone is sent for as long as `--drain` says, and then written
+/// to its file, or lost. The line that says how a run settled which another follows goes to the log.
 pub fn run<
     R: RelayRuntime,
     S: Source,
@@ -121,8 +123,8 @@ pub fn run<
     }
 }
 
-/// The run that is to begin: what it begins with, the output of its log, what is still to do for the run before, and its number,
-/// from 1 on.
+/// The run that is to begin: what it begins with, the output of its log, what is still to do for the run before, and its
+/// number, from 1 on.
 #[derive(Drop)]
 struct NextRun<L> {
     start: Start,
@@ -265,7 +267,7 @@ fn run_relay<
     }
 }
 
-/// Settles the last run, writes what it leaves, and drops it.
+/// Settles the last run, and writes what it leaves.
 fn stop<B: Set, W: Write, L: Drop, K: Recorder>(
     alloc: Global,
     relay: Relay<B>,
@@ -282,24 +284,30 @@ fn stop<B: Set, W: Write, L: Drop, K: Recorder>(
         × ClosesWith (W.contents output.old) (W.contents output.new) settled left.records.fault fault) }
 {
     let mut relay = relay;
-    let records = &left.records;
+    let RunLeft {
+        records,
+        log,
+        server,
+    } = left;
     let (doors, outlets) = (records.doors.as_slice(), records.outlets.as_slice());
     let settled = relay.queues.settle(alloc, doors, outlets);
-    let run = relay.finished(&settled, &left.records.logs);
-    let ended = write_end(alloc, &run, left.records.fault, output, recorder);
-    drop(settled);
-    drop(left);
+    let run = relay.finished(&settled, &records.logs);
+    let ended = write_end(alloc, &run, records.fault, output, recorder);
+    drop((log, server));
     // Whoever waits at the admin port for the end of the relay knows of it now.
     drop(ports);
-    drop(relay);
+    // Datapoint by datapoint it would take long to give all this back. The process ends, and the system takes it at once.
+    mem::forget(settled);
+    mem::forget(records);
+    mem::forget(relay);
     match ended {
         Ok(status) => Ok(RunEnd::Stopped(status)),
         Err(fault) => Err(fault),
     }
 }
 
-/// Takes a relay apart whose run has ended, and makes of it what the next one begins with. If that cannot begin, what is left is
-/// written to files, if there is a folder.
+/// Takes a relay apart whose run has ended, and makes of it what the next one begins with. If that cannot begin, what is left
+/// is written to files, if there is a folder.
 fn follow<B: Set, R: RelayRuntime, L: Drop>(
     rt: &R,
     alloc: Global,
@@ -377,8 +385,8 @@ fn spool_inherited<R: RelayRuntime>(
     drop(inherited);
 }
 
-/// Writes to files what a run held that failed, if it is one of a reload: that before, of which what the threads recorded could not
-/// be kept, or that behind, which could not begin.
+/// Writes to files what a run held that failed, if it is one of a reload: that before, of which what the threads recorded could
+/// not be kept, or that behind, which could not begin.
 fn spool_failed<B: Set, R: RelayRuntime>(
     rt: &R,
     alloc: Global,

@@ -26,8 +26,8 @@ use std::alloc::Global;
 use std::io::Write;
 use std::sync::Arc;
 
-/// What the first thread of a run works with beside the relay: its ports, the output, who reads files for a reload, the folder for
-/// what is not sent, what is still to do for the run before, and the recorder.
+/// What the first thread of a run works with beside the relay: its ports, the output, who reads files for a reload, the folder
+/// for what is not sent, what is still to do for the run before, and the recorder.
 #[derive(Drop)]
 pub(crate) struct FirstWork<'p, W, F, K> {
     pub(crate) ports: &'p mut FirstPorts,
@@ -45,8 +45,8 @@ pub(crate) struct RanThreads<L> {
     pub(crate) next: Option<PreparedRun>,
 }
 
-/// Runs the threads of an open relay until it is stopped, or another run is to follow, and they have ended, and returns what they
-/// recorded; or a fault of the start, and then nothing is written.
+/// Runs the threads of an open relay until it is stopped, or another run is to follow, and they have ended, and returns what
+/// they recorded; or a fault of the start, and then nothing is written.
 pub(crate) fn run_until_ended<
     'x,
     B: Set + Send + Sync,

@@ -18,8 +18,8 @@ use std::net::Net;
 use std::rt::Clock;
 use std::sync::Wait;
 
-/// A sender that is to run: the relay that it is of, its number, its connector, the places for the files of its destinations and
-/// for what ended runs left for them, and its outlet.
+/// A sender that is to run: the relay that it is of, its number, its connector, the places for the files of its destinations
+/// and for what ended runs left for them, and its outlet.
 #[derive(Drop)]
 pub(crate) struct SenderJob<'x, B: Set, R: Wait + SpoolDisk + Drop> {
     pub(crate) relay: &'x Relay<B>,
@@ -64,8 +64,8 @@ impl<'x, B: Set, R: Wait + Clock + Net + SpoolDisk + Copy + Drop> ThreadWork<
             senders,
         };
         share.take_lefts(&mut connector, &mut spool, &mut rests, times.millis());
-        let slots = &relay.slots;
-        let connector = SpoolConnector::new(connector, *rt, spool, slots, signals);
+        let (slots, orders) = (&relay.slots, &relay.orders);
+        let connector = SpoolConnector::new(connector, *rt, spool, slots, signals, orders);
         let connector = RestConnector::new(
             alloc, connector, rests, slots, signals, number, senders,
         );

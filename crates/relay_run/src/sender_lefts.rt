@@ -43,8 +43,8 @@ impl<'n> Share<'n> {
     }
 }
 
-/// Gives what is left for a destination to what sends it: its connection goes on with the earlier file, if that is not sent yet,
-/// and otherwise with the rest.
+/// Gives what is left for a destination to what sends it: its connection goes on with the earlier file, if that is not sent
+/// yet, and otherwise with the rest.
 fn take_left<'n, R: Net + Drop, L: Lookup + Drop, D: SpoolDisk + Drop>(
     left: LeftDest,
     place: usize,

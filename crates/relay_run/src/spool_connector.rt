@@ -3,6 +3,7 @@
 ghost use Rattle.std.specs.Prelude.{◌≡◌, ◌≤◌, IfErr};
 
 use crate::dest_slots::DestSlots;
+use crate::end_orders::EndOrders;
 use mio_loops::ReadinessFault;
 use relay_base::{DestId, MOST_DESTINATIONS, NoMemory, add};
 use run_state::Signals;
@@ -58,7 +59,8 @@ impl<'n, W: Drop> SenderSpool<'n, W> {
         })
     }
 
-    /// From now on these are the files of a destination. The connection that the earlier one went out on goes on, if it is there.
+    /// From now on these are the files of a destination. The connection that the earlier one went out on goes on, if it is
+    /// there.
     pub(crate) fn begin(&mut self, place: usize, files: Option<DestSpool>, sink: Option<W>) {
         note_behind(self.notes.get(place), &files);
         let Some(state) = self.dests.get_mut(place) else {
@@ -98,8 +100,8 @@ fn note_behind(notes: Option<&SpoolNotes>, spool: &Option<DestSpool>) {
 }
 
 /// Connects through another connector. While the file of an earlier run holds lines for a destination, it keeps the
-/// connection for itself and sends the file, so that the destination is not connected for others before. Once the senders
-/// spool, it reports all connections as closed, and the next connection of each destination is its new file.
+/// connection for itself and sends the file, so that the destination is not connected for others before. Once a
+/// destination is spooled, it reports its connection as closed, and the next one is its new file.
 ///
 /// Without a spool it connects as the other connector does.
 #[derive(Drop)]
@@ -109,6 +111,7 @@ pub(crate) struct SpoolConnector<'n, 's, N: Connect, D> {
     spool: SenderSpool<'n, N::Sink>,
     slots: &'n DestSlots,
     signals: &'s Signals,
+    orders: &'s EndOrders,
     // Whether the last connections are files.
     may_spool: bool,
     ready: [DestId; MOST_DESTINATIONS],
@@ -122,6 +125,7 @@ impl<'n, 's, N: Connect, D: SpoolDisk + Copy + Drop> SpoolConnector<'n, 's, N, D
         spool: SenderSpool<'n, N::Sink>,
         slots: &'n DestSlots,
         signals: &'s Signals,
+        orders: &'s EndOrders,
     ) -> SpoolConnector<'n, 's, N, D> {
         SpoolConnector {
             connector,
@@ -129,6 +133,7 @@ impl<'n, 's, N: Connect, D: SpoolDisk + Copy + Drop> SpoolConnector<'n, 's, N, D
             spool,
             slots,
             signals,
+            orders,
             may_spool: true,
             ready: [DestId(0); MOST_DESTINATIONS],
         }
@@ -141,12 +146,14 @@ impl<'n, 's, N: Connect, D: SpoolDisk + Copy + Drop> SpoolConnector<'n, 's, N, D
         connector
     }
 
-    /// Whether the next connection of each destination is its new file.
-    fn is_spooling(&self) -> bool {
-        self.may_spool && self.signals.is_spooling() && !self.spool.is_none()
+    /// Whether the last connection of a destination is its new file.
+    fn is_spooling(&self, dest: DestId) -> bool {
+        let is_told = self.signals.is_spooling() || self.orders.is_spooled(dest);
+        self.may_spool && is_told && !self.spool.is_none()
     }
 
-    /// Leaves the files of a destination in their slot, with the socket that the earlier one goes out on if another run follows.
+    /// Leaves the files of a destination in their slot, with the socket that the earlier one goes out on if another run
+    /// follows.
     fn leave(&mut self, place: usize) {
         let Some((files, sink)) = self.spool.take(place) else {
             return;
@@ -323,7 +330,7 @@ impl<'n, 's, N: Connect + Drop, D: SpoolDisk + Copy + Drop> Connect
     }
 
     fn connect(&mut self, dest: DestId, millis: u64) -> Option<SpoolSink<'n, N::Sink, D>> {
-        if self.is_spooling() {
+        if self.is_spooling(dest) {
             let files = self.spool.take_files(dest.0)?;
             let notes = self.spool.notes.get(dest.0);
             let file = FileSink::new(self.disk, files, self.spool.limit, notes);
@@ -333,7 +340,7 @@ impl<'n, 's, N: Connect + Drop, D: SpoolDisk + Copy + Drop> Connect
     }
 
     fn has_closed(&self, dest: DestId) -> bool {
-        if self.is_spooling() {
+        if self.is_spooling(dest) {
             return self.spool.has_file(dest.0);
         }
         self.connector.has_closed(dest)

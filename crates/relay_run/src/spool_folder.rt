@@ -15,8 +15,8 @@ pub struct SpoolFolder<'a> {
     pub limit: Option<u64>,
 }
 
-/// The files of destinations in a folder, if there is one, by destination, and what is to be said of the folder. Refuses if out of
-/// memory.
+/// The files of destinations in a folder, if there is one, by destination, and what is to be said of the folder. Refuses if out
+/// of memory.
 pub(crate) fn open_files<R: SpoolDisk>(
     rt: &R,
     alloc: Global,

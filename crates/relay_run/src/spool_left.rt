@@ -8,8 +8,8 @@ use run_state::GoneEnd;
 use spool::{DestSpool, FileSink, SpoolDisk, SpoolNotes};
 use std::alloc::Global;
 
-/// Writes to a file what is left for a destination, if files keep that; otherwise it is lost. Returns how many datapoints the file
-/// keeps, and how many are lost.
+/// Writes to a file what is left for a destination, if files keep that; otherwise it is lost. Returns how many datapoints the
+/// file keeps, and how many are lost.
 pub(crate) fn spool_left<D: SpoolDisk + Drop>(
     disk: D,
     alloc: Global,

@@ -16,8 +16,8 @@ use relay_files::{RelayFault, RunConfiguration};
 use std::alloc::Global;
 use std::time::Instant;
 
-/// What a run begins with: its configuration and its numbers, its ports, which are bound, the totals of its queues, and what ended
-/// runs left.
+/// What a run begins with: its configuration and its numbers, its ports, which are bound, the totals of its queues, and what
+/// ended runs left.
 #[derive(Drop)]
 pub(crate) struct Start {
     pub(crate) configuration: RunConfiguration,

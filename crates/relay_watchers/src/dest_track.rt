@@ -1,5 +1,7 @@
 //! What several looks at a destination show.
 
+ghost use Rattle.std.specs.Prelude.{◌≤◌, ◌<◌, length};
+
 use crate::status_history::{NO_RATES, rates_of};
 use dest_queue::Counts;
 use log_lines::DestStatus;
@@ -62,6 +64,9 @@ pub(crate) struct DestTrack {
     // has given out whole are younger.
     marks: Vec<Mark>,
     given: Mark,
+    // No more than MOST_LOSSES, and no more than MOST_MARKS.
+    ghost few_losses: { length losses.items ≤ 60 },
+    ghost few_marks: { length marks.items ≤ 128 },
 }
 
 impl DestTrack {
@@ -123,11 +128,7 @@ impl DestTrack {
         forget_old(&mut self.losses, millis);
         let lost = status.losses.saturating_sub(self.lost);
         self.lost = status.losses;
-        for _ in 0..lost.min(MOST_LOSSES as u64) {
-            if self.losses.len() < MOST_LOSSES {
-                let _ = self.losses.push(millis);
-            }
-        }
+        add_losses(&mut self.losses, lost, millis);
     }
 
     /// Notes what the queue has kept, and drops the marks that it has given out whole.
@@ -159,10 +160,8 @@ impl DestTrack {
         if self.marks.is_empty() {
             return self.given.renew(kept, millis);
         }
-        match self.marks.as_mut_slice().last_mut() {
-            Some(mark) => mark.renew(kept, millis),
-            None => false,
-        }
+        let last = self.marks.len() - 1;
+        self.marks[last].renew(kept, millis)
     }
 
     /// What its queue counted in each second of the last sample.
@@ -216,8 +215,21 @@ const NO_COUNTS: Counts = Counts {
     seals: 0,
 };
 
+/// Adds so many losses of these milliseconds, as far as more are remembered.
+fn add_losses(losses: &mut Vec<u64>, lost: u64, millis: u64)
+    ensures few { length losses.old.items ≤ MOST_LOSSES → length losses.new.items ≤ MOST_LOSSES }
+{
+    for _ in 0..lost.min(MOST_LOSSES as u64) {
+        if losses.len() < MOST_LOSSES {
+            let _ = losses.push(millis);
+        }
+    }
+}
+
 /// Forgets the times that are a minute old.
-fn forget_old(times: &mut Vec<u64>, millis: u64) {
+fn forget_old(times: &mut Vec<u64>, millis: u64)
+    ensures { length times.new.items ≤ length times.old.items }
+{
     let mut old: usize = 0;
     for time in times.as_slice() {
         if millis.saturating_sub(*time) < MINUTE_MS {
@@ -229,7 +241,9 @@ fn forget_old(times: &mut Vec<u64>, millis: u64) {
 }
 
 /// Drops the first items of a list.
-fn drop_first<T: Copy + Drop>(items: &mut Vec<T>, count: usize) {
+fn drop_first<T: Copy + Drop>(items: &mut Vec<T>, count: usize)
+    ensures { length items.new.items ≤ length items.old.items }
+{
     for _ in 0..count {
         if items.is_empty() {
             return;
@@ -239,7 +253,9 @@ fn drop_first<T: Copy + Drop>(items: &mut Vec<T>, count: usize) {
 }
 
 /// Drops each second mark.
-fn thin(marks: &mut Vec<Mark>) {
+fn thin(marks: &mut Vec<Mark>)
+    ensures fewer { length marks.old.items ≤ MOST_MARKS → length marks.new.items < MOST_MARKS }
+{
     let mut place: usize = 0;
     for _ in 0..MOST_MARKS / 2 {
         if place >= marks.len() {

@@ -110,8 +110,8 @@ fn logged_at(noted: DestSources<'_>, place: usize) -> LoggedDest {
 }
 
 impl<'x, B: Set, L: Write + Drop> LogJob<'x, B, L> {
-    /// The log of these destinations, all of them, with this size of their queues, of these receivers, and of these destinations
-    /// that are gone. It begins with these news. Refuses if out of memory.
+    /// The log of these destinations, all of them, with this size of their queues, of these receivers, and of these
+    /// destinations that are gone. It begins with these news. Refuses if out of memory.
     fn new(
         alloc: Global,
         queues: &'x Queues<B>,

@@ -306,8 +306,8 @@ impl StatusServer {
         }
     }
 
-    /// The next run has other destinations: at each of these places is what was seen of the one that was at that place, if it was
-    /// there.
+    /// The next run has other destinations: at each of these places is what was seen of the one that was at that place, if it
+    /// was there.
     pub fn keep_dests(&mut self, alloc: Global, kept: &[Option<DestId>]) {
         self.history.keep_dests(alloc, kept);
     }

@@ -15,8 +15,9 @@ use std::alloc::Global;
 use std::io::Write;
 use std::time::Instant;
 
-/// What the threads that watch a run watch: its queues and its destinations, all of them, those that are gone, what the
-/// first thread has for the log, the size of the queues, the version that the status shows, the checksum of the configuration, and since when the milliseconds of a run count.
+/// What the threads that watch a run watch: its queues and its destinations, all of them, those that are gone, what the first
+/// thread has for the log, the size of the queues, the version that the status shows, the checksum of the configuration, and
+/// since when the milliseconds of a run count.
 #[derive(Clone, Copy)]
 pub struct Watched<'x, B: Set> {
     /// The queues.
@@ -37,8 +38,8 @@ pub struct Watched<'x, B: Set> {
     pub began: Option<Instant>,
 }
 
-/// The work of the log and that of the status server of a run, and of these receivers: none of a log without an output, and none
-/// of a status server that is not there. The log begins with these news. Refuses if out of memory.
+/// The work of the log and that of the status server of a run, and of these receivers: none of a log without an output, and
+/// none of a status server that is not there. The log begins with these news. Refuses if out of memory.
 pub fn watchers_of<'x, B: Set, L: Write + Drop>(
     alloc: Global,
     watched: &Watched<'x, B>,

@@ -29,8 +29,8 @@ pub fn stop(rt: &HostRuntime, alloc: Global, port: u16, waits: bool) -> Status {
     status_of(rt, ended)
 }
 
-/// Has the relay with this admin port take a new configuration, and prints what it answers: `reloaded`, or on standard error why
-/// it goes on as it was, with the notes on that if they are asked for.
+/// Has the relay with this admin port take a new configuration, and prints what it answers: `reloaded`, or on standard error
+/// why it goes on as it was, with the notes on that if they are asked for.
 pub fn reload(
     rt: &HostRuntime,
     alloc: Global,

@@ -1,5 +1,5 @@
 -- What a drain sees of a destination, and whether it waits for it.
-use Rattle.std.specs.Prelude.{ℕ, ◌-◌, ◌*◌, ◌^◌, ◌==◌, ◌&&◌, min, Bool, nat_lt, nat_le, if◌then◌else◌}
+use Rattle.std.specs.Prelude.{ℕ, ◌≡◌, ◌≢◌, ◌⊎◌, ◌-◌, ◌*◌, ◌^◌, ◌==◌, ◌&&◌, min, Bool, List, nat_lt, nat_le, if◌then◌else◌, slice_index_or}
 use Rattle.run_state.specs.declared.drain.Look.{Look}
 use Rattle.run_state.specs.declared.drain.DrainProgress.{DrainProgress}
 use Rattle.run_state.specs.declared.drain.Waits.{Waits}
@@ -16,6 +16,22 @@ rate_time = 1000
 -- the greatest number, which stands for a destination that was not looked at
 abbrev pub greatest : ℕ
 greatest = 2 ^ 64 - 1
+
+-- ---- what was seen before a look
+
+-- nothing, since these milliseconds
+abbrev pub nothing_seen : ℕ → DrainProgress
+nothing_seen millis =
+    record {
+      left = greatest;
+      moved = millis;
+      before = record { left = greatest; millis = millis };
+      after = record { left = greatest; millis = millis };
+    }
+
+-- of the destination of this place
+abbrev pub seen_of : List DrainProgress → ℕ → DrainProgress
+seen_of progress place = slice_index_or progress place (nothing_seen 0)
 
 -- ---- what was seen, once a look at these milliseconds has found this much left
 
@@ -63,3 +79,14 @@ waits_for left millis end progress =
     if left == 0 then Done
     else (if nat_le longest_pause (millis - progress.moved) then Stuck
     else (if is_slow left millis end progress then Slow else Yes))
+
+-- ---- a look at a destination
+
+-- it has no connection that takes what is queued, or it has this much left; and so the drain waits for it or not
+abbrev pub IsLook : (millis end : ℕ) → (before after : DrainProgress) → Waits → Type 0
+IsLook millis end before after waits =
+    ((after ≡ nothing_seen millis) × (waits ≡ Done))
+    ⊎ ((left : ℕ) × (after ≡ progress_after left millis before) × (waits ≡ waits_for left millis end after))
+
+abbrev pub IsNotWaitedFor : (millis end : ℕ) → (before after : DrainProgress) → Type 0
+IsNotWaitedFor millis end before after = (waits : Waits) × IsLook millis end before after waits × (waits ≢ Yes)

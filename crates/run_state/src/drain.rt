@@ -1,6 +1,7 @@
 //! For whom a drain waits.
 
-ghost use Rattle.std.specs.Prelude.{◌≡◌, ◌+◌, ◌*◌, ◌-◌, ◌^◌, ◌≤◌, ◌<◌, min, true};
+ghost use Rattle.std.specs.Prelude.{◌≡◌, ◌≢◌, ℕ, ◌+◌, ◌*◌, ◌-◌, ◌^◌, ◌≤◌, ◌<◌, min, true, length};
+ghost use Rattle.run_state.specs.Drain.{IsLook, IsNotWaitedFor, seen_of};
 
 use crate::signals::Signals;
 use crate::unsent::Unsent;
@@ -75,19 +76,25 @@ impl Drain {
         millis: u64,
     ) -> bool
         ensures over { self.old.end ≤ millis → result ≡ true }
+        // Before that it is over only if it waits for no destination, by what it saw of each.
+        ensures not_before { result ≡ true → millis < self.old.end
+            → (place : ℕ) → place < min (length unsent.now.noted.dests.now) MOST_DESTINATIONS
+            → IsNotWaitedFor millis self.old.end
+            (seen_of self.old.progress place) (seen_of self.new.progress place) }
         ensures end { self.new.end ≡ self.old.end }
     {
         let (mut stuck, mut slow) = (0, 0);
         let mut is_over = true;
         let mut bit: u64 = 1;
         for place in 0..unsent.dests().min(MOST_DESTINATIONS) {
+            let own = bit;
+            bit = bit.wrapping_mul(2);
             match self.look_at(rt, unsent, place, millis) {
                 Waits::Yes => is_over = false,
                 Waits::Done => {}
-                Waits::Stuck => stuck |= bit,
-                Waits::Slow => slow |= bit,
+                Waits::Stuck => stuck |= own,
+                Waits::Slow => slow |= own,
             }
-            bit = bit.wrapping_mul(2);
         }
         signals.note_given_up(stuck, slow);
         is_over || millis >= self.end
@@ -102,7 +109,11 @@ impl Drain {
         millis: u64,
     ) -> Waits
         requires place { (place < B.dests) × (place < 64) }
-        ensures { self.new.end ≡ self.old.end }
+        ensures look { IsLook millis self.old.end
+            (seen_of self.old.progress place) (seen_of self.new.progress place) result }
+        ensures others { (other : ℕ) → other ≢ place
+            → seen_of self.new.progress other ≡ seen_of self.old.progress other }
+        ensures end { self.new.end ≡ self.old.end }
     {
         if !unsent.is_up(place) || unsent.is_behind(place) {
             self.progress[place] = DrainProgress::nothing(millis);
@@ -116,10 +127,12 @@ impl Drain {
 
 impl DrainProgress {
     ghost use Rattle.std.specs.Prelude.{◌≡◌};
-    ghost use Rattle.run_state.specs.Drain.{progress_after, with_left, with_first_look, with_look, waits_for, is_slow};
+    ghost use Rattle.run_state.specs.Drain.{nothing_seen, progress_after, with_left, with_first_look, with_look, waits_for, is_slow};
 
     /// Nothing was seen of it before these milliseconds.
-    fn nothing(millis: u64) -> DrainProgress {
+    fn nothing(millis: u64) -> DrainProgress
+        ensures { result ≡ nothing_seen millis }
+    {
         let look = Look {
             left: u64::MAX,
             millis,

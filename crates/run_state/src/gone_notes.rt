@@ -2,8 +2,8 @@
 
 use std::sync::atomic::{AtomicBool, AtomicU64, Ordering};
 
-/// What became of what a run held for a destination that the next one does not have. The thread that sends it notes it; that of the
-/// log reads it at the same time.
+/// What became of what a run held for a destination that the next one does not have. The thread that sends it notes it; that of
+/// the log reads it at the same time.
 #[derive(Drop)]
 pub struct GoneNotes {
     is_over: AtomicBool,

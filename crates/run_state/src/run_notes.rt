@@ -12,8 +12,8 @@ use std::sync::Arc;
 pub struct RunNotes {
     /// What each receiver notes.
     pub receivers: Vec<Arc<ReceiverNotes>>,
-    /// By destination: the events of its connections, what its queues counted in runs that have ended, and how much of what these
-    /// left is not sent.
+    /// By destination: the events of its connections, what its queues counted in runs that have ended, and how much of what
+    /// these left is not sent.
     pub dests: Vec<DestNotes>,
     /// See there.
     pub earlier: Vec<EarlierCounts>,

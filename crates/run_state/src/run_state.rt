@@ -16,8 +16,8 @@ use std::alloc::Global;
 use std::sync::Arc;
 use std::sync::atomic::AtomicU64;
 
-/// The signals between the threads, what is noted over all runs, how many connections each receiver of lines holds, and, if what
-/// is queued at the end is not lost, what becomes of that.
+/// The signals between the threads, what is noted over all runs, how many connections each receiver of lines holds, and, if
+/// what is queued at the end is not lost, what becomes of that.
 #[derive(Drop)]
 pub struct RunState {
     signals: Signals,
@@ -60,8 +60,8 @@ impl<'x> DestSources<'x> {
 }
 
 impl RunState {
-    /// The state of a run with this many destinations, and receivers of lines, without notes yet. It drains for this many seconds at
-    /// most, not at all with 0. Refuses if out of memory.
+    /// The state of a run with this many destinations, and receivers of lines, without notes yet. It drains for this many
+    /// seconds at most, not at all with 0. Refuses if out of memory.
     pub fn new(
         alloc: Global,
         dests: usize,

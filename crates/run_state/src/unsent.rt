@@ -35,6 +35,7 @@ impl<'x, B: Set> Unsent<'x, B> {
 
     /// How many destinations there are.
     pub(crate) fn dests(&self) -> usize
+        ensures dests { result ≡ length self.now.noted.dests.now }
         ensures few { result ≤ B.dests }
     {
         self.noted.dests.len()
@@ -66,8 +67,8 @@ impl<'x, B: Set> Unsent<'x, B> {
         }
     }
 
-    /// How many datapoints were queued for a destination, which exists, in this run and in those that have ended, and not taken by
-    /// its connections to the last byte: they are queued or in hand.
+    /// How many datapoints were queued for a destination, which exists, in this run and in those that have ended, and not taken
+    /// by its connections to the last byte: they are queued or in hand.
     pub fn left_at<R: Wait>(&self, rt: &R, place: usize) -> u64
         requires place { place < B.dests }
     {

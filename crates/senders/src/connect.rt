@@ -34,12 +34,12 @@ pub trait Connect {
         false
     }
 
-    /// Takes what a sender that was stopped leaves of a destination: its writer, with the batch in hand, and the connection. Called
-    /// once for each destination, in their order. A connector that hands nothing on drops it.
+    /// Takes what a sender that was stopped leaves of a destination: its writer, with the batch in hand, and the connection.
+    /// Called once for each destination, in their order. A connector that hands nothing on drops it.
     fn hand_over(&mut self, _dest: DestId, _left: LeftWriter<Self::Sink>) {}
 
-    /// Gives up the connection of a destination for another sender, and returns its socket. `None` if it takes no more, or if the
-    /// connector hands nothing on; the connection is closed then.
+    /// Gives up the connection of a destination for another sender, and returns its socket. `None` if it takes no more, or if
+    /// the connector hands nothing on; the connection is closed then.
     fn take_back(&mut self, _dest: DestId, _sink: Self::Sink) -> Option<KeptSocket> {
         None
     }

@@ -101,8 +101,8 @@ impl<N: Connect> LeftTaker<N::Sink> for ToConnector<'_, N> {
     }
 }
 
-/// Half-closes the connections, and waits until no peer may still send something, for [`LONGEST_END_MS`] at most. Does nothing if
-/// the connections go on elsewhere.
+/// Half-closes the connections, and waits until no peer may still send something, for [`LONGEST_END_MS`] at most. Does nothing
+/// if the connections go on elsewhere.
 fn end_connections<R: Wait, N: Connect, T: TimeSource>(rt: &R, connector: &mut N, times: &T) {
     if connector.hands_over() {
         return;

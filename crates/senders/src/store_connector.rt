@@ -96,8 +96,8 @@ impl<'g, R: Net + Drop, L: Lookup + Drop> StoreConnector<'g, R, L> {
 }
 
 impl<'g, R: Net + Drop, L: Lookup + Drop> StoreConnector<'g, R, L> {
-    /// The socket of a destination's connection, whose stream was given up after this many bytes of a begun line. `None` if there is
-    /// none, or if it takes no more.
+    /// The socket of a destination's connection, whose stream was given up after this many bytes of a begun line. `None` if
+    /// there is none, or if it takes no more.
     fn take_socket(&mut self, dest: DestId, begun: usize) -> Option<KeptSocket> {
         let Some(Some(link)) = self.links.get_mut(dest.0) else {
             return None;
@@ -106,9 +106,9 @@ impl<'g, R: Net + Drop, L: Lookup + Drop> StoreConnector<'g, R, L> {
         Some(KeptSocket { socket, begun })
     }
 
-    /// Takes over the connection of a destination from another sender: it goes on here. `None` if the system does not watch it, or
-    /// the destination is not of this sender; the connection is lost then. It counts as made at these milliseconds if nothing was
-    /// noted of the destination before.
+    /// Takes over the connection of a destination from another sender: it goes on here. `None` if the system does not watch it,
+    /// or the destination is not of this sender; the connection is lost then. It counts as made at these milliseconds if
+    /// nothing was noted of the destination before.
     pub fn keep(&mut self, dest: DestId, kept: KeptSocket, millis: u64) -> Option<StoreStream<'g>> {
         if let Some(notes) = self.notes.get(dest.0) {
             notes.note_kept(millis);

@@ -40,8 +40,8 @@ impl<'e> StoreStream<'e> {
         }
     }
 
-    /// A connection of another sender that goes on here, within a line of which it has taken this many bytes. Nothing is noted: for
-    /// the store nothing has changed.
+    /// A connection of another sender that goes on here, within a line of which it has taken this many bytes. Nothing is noted:
+    /// for the store nothing has changed.
     pub(crate) fn resumed(
         wire: Arc<Wire>,
         begun: usize,

@@ -1,5 +1,5 @@
 -- What a file holds, and what of it connections get.
-use Rattle.std.specs.Prelude.{◌≡◌, ℕ, ◌-◌, ◌^◌, ◌<◌, List, ◌++◌, length, take, drop, flat_map, Option}
+use Rattle.std.specs.Prelude.{◌≡◌, ℕ, ◌+◌, ◌-◌, ◌^◌, ◌<◌, ◌≤◌, List, ◌++◌, length, take, drop, flat_map, min, Option, IfSome}
 use Rattle.std.specs.Io.{StartsWith}
 use Rattle.std.specs.Io.KnownBytes.{Appends}
 use Rattle.backlog.specs.Lines.{whole_lines}
@@ -13,6 +13,10 @@ lines_end held size = length (whole_lines (take size held))
 -- what is left from a place on of a file whose whole lines end there
 abbrev pub left_of : List ℕ → ℕ → ℕ → List ℕ
 left_of held next end = take (end - next) (drop next held)
+
+-- a file of this size may have as many bytes more, by the limit for the size of a file, if there is one
+abbrev pub HasRoom : Option ℕ → ℕ → ℕ → Type 0
+HasRoom limit size count = IfSome limit (λ limit. min (size + count) (2 ^ 64 - 1) ≤ limit)
 
 -- a cursor moves past these bytes
 abbrev pub MovesPast : Place → Place → List ℕ → Type 0

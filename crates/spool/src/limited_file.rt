@@ -1,10 +1,10 @@
 //! A file that is written.
 
-ghost use Rattle.std.specs.Prelude.{◌≡◌, ◌↔◌, [], take, IsTrue, MatchResult};
+ghost use Rattle.std.specs.Prelude.{◌≡◌, ◌↔◌, [], length, take, IfOk, IsTrue, MatchResult};
 ghost use Rattle.std.specs.Io.{WritesAtMost};
 ghost use Rattle.std.specs.Io.KnownBytes.{WriteAppends};
 ghost use Rattle.backlog.specs.Place.{place_after};
-ghost use Rattle.spool.specs.Held.{MovesPast};
+ghost use Rattle.spool.specs.Held.{HasRoom, MovesPast};
 
 use backlog::Cursor;
 use std::io;
@@ -23,7 +23,9 @@ pub struct LimitedFile<W> {
 impl<W: Write> LimitedFile<W> {
     /// A file that has nothing yet, with this limit, if there is one.
     pub fn new(file: W, limit: Option<u64>) -> LimitedFile<W>
-        ensures { result.written ≡ place_after [] [] }
+        ensures file { result.file ≡ file }
+        ensures limit { result.limit ≡ limit }
+        ensures written { result.written ≡ place_after [] [] }
     {
         LimitedFile {
             file,
@@ -47,7 +49,9 @@ impl<W: Write> LimitedFile<W> {
     }
 
     /// The file.
-    pub fn file(&self) -> &W {
+    pub fn file(&self) -> &W
+        ensures { result.now ≡ self.now.file }
+    {
         &self.file
     }
 }
@@ -62,6 +66,9 @@ impl<W: Write> Write for LimitedFile<W> {
         ensures written { MatchResult result
             (λ count. MovesPast self.old.written self.new.written (take count buf.now))
             (λ _. self.new.written ≡ self.old.written) }
+        ensures room { IfOk result (λ _.
+            HasRoom self.old.limit self.old.written.next (length buf.now)) }
+        ensures limit { self.new.limit ≡ self.old.limit }
     {
         if !has_room(self.limit, self.written.next(), buf.len()) {
             return Err(io::Error::from(ErrorKind::FileTooLarge));
@@ -77,10 +84,12 @@ impl<W: Write> Write for LimitedFile<W> {
     }
 }
 
-/// Whether a file of this length may have as many bytes more.
-fn has_room(limit: Option<u64>, length: u64, count: usize) -> bool {
+/// Whether a file of this size may have as many bytes more.
+fn has_room(limit: Option<u64>, size: u64, count: usize) -> bool
+    ensures { IsTrue result ↔ HasRoom limit size count }
+{
     match limit {
-        Some(limit) => length.saturating_add(count as u64) <= limit,
+        Some(limit) => size.saturating_add(count as u64) <= limit,
         None => true,
     }
 }

@@ -36,6 +36,7 @@ pub fn send_pieces<F: HeldText, W: Write>(
     ensures sent { IfSome (F.text file.now) (λ held.
         GoesOn (take end held) cursor.old cursor.new (W.contents sink.old) (W.contents sink.new)) }
     ensures all { result ≡ SendOutcome.All → end ≤ cursor.new.next }
+    ensures over { end ≤ cursor.old.next → result ≡ SendOutcome.All }
 {
     laws::nothing_is_lost();
     laws::left_from_place();
@@ -62,6 +63,7 @@ pub fn send_piece<F: HeldText, W: Write>(
         GotPart (left_of held cursor.old.next end) cursor.old cursor.new
         (W.contents sink.old) (W.contents sink.new)) }
     ensures all { result ≡ SendOutcome.All → end ≤ cursor.new.next }
+    ensures over { end ≤ cursor.old.next → result ≡ SendOutcome.All }
 {
     let next = cursor.next();
     if next >= end {

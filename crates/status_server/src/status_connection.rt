@@ -5,10 +5,9 @@ use crate::service::StatusService;
 use http_server::{Config, Connection};
 use http1::Limits;
 use mio::net::TcpStream;
-use mio_loops::exchange::{MOST_TRIES, PATIENCE_MS, Stage, Transfer};
+use mio_loops::exchange::{MOST_TRIES, PATIENCE_MS, Stage, Transfer, read_away};
 use std::alloc::Global;
 use std::hash::RandomState;
-use std::io::Read;
 use std::net::Shutdown;
 
 /// After how many milliseconds without a whole request a connection may have to make room for another.
@@ -135,14 +134,11 @@ impl StatusConnection {
     /// Reads and drops all bytes, until its peer has closed the connection.
     fn read_away(&mut self) -> Progress {
         let mut room = [0u8; 4_096];
-        for _ in 0..MOST_TRIES {
-            match Transfer::of(self.stream.read(&mut room)) {
-                Transfer::Bytes(_) => {}
-                Transfer::Blocked => return Progress::Waits,
-                Transfer::End | Transfer::Failed => return Progress::Over,
-            }
+        if read_away(&mut self.stream, &mut room) {
+            Progress::Over
+        } else {
+            Progress::Waits
         }
-        Progress::Waits
     }
 
     /// The next stage, which has its own time.

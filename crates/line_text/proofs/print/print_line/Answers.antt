@@ -8,14 +8,14 @@ use Rattle.line_text.proofs.print.print_line.Goals as goal
 abbrev time_fits : (time : ℕ) → time ≤ last_time → length (decimal time) ≤ 16
 time_fits time within = length-decimal-le 16 time (lit< tt) (omega arith) (omega arith)
 
-pub append-requires-4 : goal.append-requires-4
-append-requires-4 c =
+pub append-requires-2 : goal.append-requires-2
+append-requires-2 c =
     let within = time_fits c.point.inside.time c.point.invariant in
     let printed_line = ap length c.format.ensures.text in
     search (rules, within, printed_line)
 
-pub append-requires-5 : goal.append-requires-5
-append-requires-5 c =
+pub push_reserved-requires-3 : goal.push_reserved-requires-3
+push_reserved-requires-3 c =
     let within = time_fits c.point.inside.time c.point.invariant in
     let printed_line = ap length c.format.ensures.text in
     search (rules, within, printed_line)

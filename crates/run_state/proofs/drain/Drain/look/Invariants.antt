@@ -1,6 +1,11 @@
-use Rattle.std.proofs.Common.{◌≡◌}
+use Rattle.std.proofs.Common.{◌≡◌, ℕ, ◌<◌, ◌≤◌, true}
+use Rattle.run_state.specs.Drain.{IsNotWaitedFor, seen_of}
 use Rattle.run_state.proofs.drain.Drain.look.Given as goal
 
--- the end is as it was
+-- the end is as it was, destinations that were not looked at yet too, and it waits for none of the others if it is over
 abbrev pub invariant-loop-place : goal.invariant-loop-place
-invariant-loop-place g l = l.self.end ≡ l.fn.self.end
+invariant-loop-place g l = record {
+  end : l.self.end ≡ l.fn.self.end;
+  others : (place : ℕ) → l.place ≤ place → seen_of l.self.progress place ≡ seen_of l.fn.self.progress place;
+  over : l.is_over ≡ true → (place : ℕ) → place < l.place → IsNotWaitedFor l.millis l.fn.self.end (seen_of l.fn.self.progress place) (seen_of l.self.progress place);
+}

@@ -1,0 +1,42 @@
+use Rattle.std.proofs.Common.{◌≡◌, ◌≢◌, ◌<◌, min, true, inl, inr, sym, subst, ◌∙◌, arith}
+use Rattle.std.proofs.lemmas.Bool.Decides.{eqb_tells}
+use Rattle.run_state.specs.Drain.{IsLook, IsNotWaitedFor, seen_of}
+use Rattle.run_state.specs.declared.drain.Waits.TheVariants.{Yes}
+use Rattle.run_state.proofs.drain.Drain.look.Goals as goal
+use Rattle.run_state.proofs.drain.Drain.look.Goals.{in-Yes, in-Done, in-Stuck, in-Slow}
+
+pub loop-place-preserved : goal.loop-place-preserved
+loop-place-preserved g c =
+    let first = c.args.self.now in
+    let before = c.loop-place.self in
+    let after = c.look_at.new.self in
+    let here = c.loop-place.place in
+    record {
+      end = c.look_at.ensures.end ∙ c.loop-place.invariant.end;
+      others = λ place behind. c.look_at.ensures.others place (λ same. omega (arith, behind, same)) ∙ c.loop-place.invariant.others place (omega (arith, behind));
+      over = λ over place passed.
+          let was : c.loop-place.is_over ≡ true = elim c.match-look_at.branch [
+            | in-Yes w ↦ grind (arith, w.is_over-is, over)
+            | in-Done w ↦ grind (arith, w.is_over-is, over)
+            | in-Stuck w ↦ grind (arith, w.is_over-is, over)
+            | in-Slow w ↦ grind (arith, w.is_over-is, over)
+          ] in
+          let not : c.look_at.result ≢ Yes = λ yes. elim c.match-look_at.branch [
+            | in-Yes w ↦ grind (arith, w.is_over-is, over)
+            | in-Done w ↦ grind (arith, w.in-Done.is, yes)
+            | in-Stuck w ↦ grind (arith, w.in-Stuck.is, yes)
+            | in-Slow w ↦ grind (arith, w.in-Slow.is, yes)
+          ] in
+          let look = subst (λ e. IsLook c.args.millis e (seen_of before.progress here) (seen_of after.progress here) c.look_at.result) c.loop-place.invariant.end c.look_at.ensures.look in
+          let look_here = subst (λ b. IsLook c.args.millis first.end b (seen_of after.progress here) c.look_at.result) (c.loop-place.invariant.others here (omega arith)) look in
+          elim (eqb_tells place here) [
+            | inl same ↦ subst (λ p. IsNotWaitedFor c.args.millis first.end (seen_of first.progress p) (seen_of after.progress p)) (sym same.1) (c.look_at.result, look_here, not)
+            | inr other ↦ subst (λ a. IsNotWaitedFor c.args.millis first.end (seen_of first.progress place) a) (sym (c.look_at.ensures.others place other.1)) (c.loop-place.invariant.over was place (omega (arith, passed, other.1)))
+          ];
+    }
+
+pub returns-then-is_over-clause-not_before : goal.returns-then-is_over-clause-not_before
+returns-then-is_over-clause-not_before g c = λ over _ place inside.
+    let of_dests = subst (λ dests. place < min dests 64) (sym c.dests.ensures.dests) inside in
+    let of_end = subst (λ end. place < end) (sym c.min-place-end.ensures) of_dests in
+    c.loop-place.invariant.over over place (omega (arith, of_end, c.loop-place-test.false))
