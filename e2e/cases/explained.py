@@ -10,8 +10,9 @@ import subprocess
 import unittest
 from pathlib import Path
 
+from fixtures import notes
 from fixtures.configured import REWRITE, RULES, SETTINGS, WithFiles, ring, settings
-from fixtures.harness import LIMIT, Ran, Settings, Suite, run
+from fixtures.harness import LIMIT, Ran, Settings, Suite, one_byte_a_read, run
 from fixtures.mounts import in_place
 from fixtures.program import TOP
 from fixtures.running import WithRelays
@@ -162,7 +163,7 @@ EFFECTS = (
     ("METRIC_CLIENT_IDLE_TIMEOUT", "300", "", "relayd only with --idle SECONDS"),
 )
 LIMITED = ("--longest-name", "1024")
-STRIPPED = "[pre]\n^\\s+|\\s+$ =\n^.*\\s.*$ =\n"  # the two rules for white space, as the pages have them
+STRIPPED = notes.STRIPPED  # the two rules for white space, as the pages have them
 
 
 class OfFiles(WithFiles):
@@ -288,6 +289,55 @@ class OfFiles(WithFiles):
     def test_strict_alone_is_a_wrong_word(self):
         ran = run(("check", "--strict", *self.given({})))
         self.assertEqual((ran.status, ran.out), (2, b""))
+
+
+class OfWholeFiles(WithFiles):
+    """Each note, by files in the folder of the run; a role that is None has no file."""
+
+    def noted(self, note, config=None, rules=None, rewrite=None):
+        """The status of a case, in which a note of these lines stands on standard error, or nothing if it is empty."""
+        words = ["--config", "relay.conf"]
+        for role, name, content in (("config", "relay.conf", config), ("rules", "rules.conf", rules),
+                                    ("rewrite", "rewrite.conf", rewrite)):
+            if content is not None:
+                (self.folder / name).write_bytes(content if isinstance(content, bytes) else content.encode())
+                words += ["--" + role, name] if role != "config" else []
+        ran = run(("check", *LIMITED, "--explain", *words), cwd=self.folder)
+        lines = note.encode().splitlines(keepends=True)
+        self.assertIn(b"".join(NOTE + line for line in lines), ran.err, (config, rules, rewrite))
+        self.assertEqual(bool(ran.err), bool(note), ran.err)
+        return ran.status
+
+    def faulty(self, note, **files):
+        """A case: the files have a fault, with this note."""
+        with self.subTest():
+            self.assertIn(self.noted(note, **files), (1, 3), files)
+
+    def good(self, note, **files):
+        """A case: the files have no fault, and this note, or none."""
+        with self.subTest():
+            self.assertEqual(self.noted(note, **files), 0, files)
+
+    def test_faults(self):
+        for config, note in notes.FAULTY_CONFIGURATIONS:
+            self.faulty(note, config=config)
+        for rules, note in notes.FAULTY_RULES:
+            self.faulty(note, config=notes.BESIDE_RULES, rules=rules)
+        for rewrite, note in notes.FAULTY_REWRITING:
+            self.faulty(note, config=notes.BESIDE_REWRITING, rewrite=rewrite)
+
+    def test_good_files(self):
+        for config, rules, note in notes.GOOD_CONFIGURATIONS:
+            self.good(note, config=config, rules=rules, rewrite=STRIPPED)
+        for rewrite, note in notes.GOOD_REWRITING:
+            self.good(note, config=notes.BESIDE_REWRITING, rewrite=rewrite)
+
+    def test_files_that_are_no_text(self):
+        self.faulty("relay.conf: No such file or directory (os error 2)\ncure: give the path of a file that this user may read\n")
+        self.faulty("relay.conf line 2: byte 252 at column 5 is not UTF-8\ncure: turn it into UTF-8: iconv -f LATIN1 -t UTF-8\n",
+                    config=b"[relay]\n# gr\xfcn\n")
+        self.faulty("relay.conf line 1: byte 255 at column 1 is not UTF-8\nthe file is UTF-16, and must be UTF-8\n"
+                    "cure: turn it into UTF-8: iconv -f UTF-16 -t UTF-8\n", config=b"\xff\xfe[\0")
 
 
 class AtATerminal(WithFiles):
@@ -419,6 +469,7 @@ class OfLines(Suite):
         self.explained(b"a 1 2\na 1\na.b 2 3\n", b"line 2: not three fields, name, value and time: a 1", in_all(1, FIELDS, "a"))
         self.explained(b"a\x01b 1 2\n", b"line 1: name: a control byte: a\\x01b 1 2",
                        in_all(1, "name: a control byte", "a\\x01b"))
+        self.explained(b"a\xff 1 2\n", b"line 1: name: not UTF-8: a\\xff 1 2", in_all(1, "name: not UTF-8", "a\\xff"))
         self.explained(b"a\xffb 1 2\n", b"line 1: name: not UTF-8: a\\xffb 1 2", in_all(1, "name: not UTF-8", "a\\xffb"))
         self.explained(b"a x 2\n", b"line 1: value: not a number: a x 2", in_all(1, "value: not a number", "a"))
         self.explained(b"a 1e30 2\n", b"line 1: value: a number out of range: a 1e30 2",
@@ -426,6 +477,10 @@ class OfLines(Suite):
         self.explained(b"a 1 x\r\n", b"line 1: time: not a number: a 1 x\\x0d", in_all(1, "time: not a number", "a"))
         self.explained(b"a 1 -7\n", b"line 1: time: a number out of range: a 1 -7",
                        in_all(1, "time: a number out of range", "a"))
+
+    def test_bytes_that_come_one_by_one(self):
+        given = b"a x 2\nb 1\nd 1 2\n"
+        self.same(given, one_byte_a_read(given, ("pass", "--explain")), run(("pass", "--explain"), given))
 
     def test_a_sum_by_cause(self):
         """In the order in which the causes appear, with the first three names."""
@@ -440,6 +495,8 @@ class OfLines(Suite):
 
     def test_the_last_line(self):
         self.explained(b"a 1 2\na 1 2", b"the last line has no newline")
+        self.explained(b"a 1 -7\na 1", b"line 1: time: a number out of range: a 1 -7", b"the last line has no newline",
+                       in_all(1, "time: a number out of range", "a"))
         self.explained(b"", )
 
     def test_a_line_too_long(self):
