@@ -1,17 +1,21 @@
 //! Rows of `conf_text`.
 
 use crate::marks::{CALLS, RowAnswer, begin, end, is_made, print_answer, print_state};
-use conf_text::{Dest, DestFault, Ini, IniFault, SettingFault, Settings};
-use std::alloc::Global;
+use conf_text::{Dest, DestFault, Ini, IniFault, Section, SettingFault, Settings};
+use std::alloc::{AllocError, Global};
 use worked_files::TWO_DESTINATIONS;
 
 pub(crate) const NAMES: &[&str] = &["Ini::read", "Dest::read", "Settings::read"];
+
+/// Rows that are refused no growth.
+pub(crate) const WORKED: &[&str] = &["sections and pairs"];
 
 pub(crate) fn run(rt: &HostRuntime, alloc: Global, name: &str) -> Option<()> {
     match name {
         "Ini::read" => read_files(rt, alloc),
         "Dest::read" => read_dests(rt, alloc),
         "Settings::read" => read_settings(rt, alloc),
+        "sections and pairs" => read_sections(rt, alloc),
         _ => None,
     }
 }
@@ -49,6 +53,75 @@ impl RowAnswer for Ini {
             self.get("relay", "MAX_QUEUE_SIZE")
         );
     }
+}
+
+static TEXTS: [&str; 32] = [
+    "",
+    "\n\n",
+    "[a]",
+    "[a]\nx = 1\n",
+    "[a]\nx = 1",
+    "[a]\r\nx = 1\r\n",
+    "\t [a]\x0b\n \x0cx\t=\t1 \n",
+    "[a]\nx=1\ny=2\n[b]\nx=3\n",
+    "[a]\n# x = 1\n; y = 2\n  # z\n",
+    "# before\n[a]\n",
+    "[a]\nx = 1 # no comment\n",
+    "[a]\nx = 1 ; no comment\n",
+    "[a]\nx =\n",
+    "[a]\nx:\n",
+    "[a]\nx : 1\n",
+    "[a]\nx = h:1\n",
+    "[a]\nx : h=1\n",
+    "[a]\nx == 1\n",
+    "[a]\nx =: 1\n",
+    "[a]\nx := 1\n",
+    "[a]\na b  c = d  e\n",
+    "[a]\nX = 1\nx = 2\n",
+    "[a]\n[A]\n",
+    "[ a ]\n[a]\n",
+    "[ ]\n",
+    "[[x]]\n",
+    "[a]]\n",
+    "[a][b]\n",
+    "[#]\n",
+    "[a]\n]x = 1\n",
+    "[a]\né = ü\n",
+    "[é]\n",
+];
+
+/// Prints the sections of each text, each as `[name]` and then `<key=value>` for each pair.
+fn read_sections(rt: &HostRuntime, alloc: Global) -> Option<()> {
+    for text in &TEXTS {
+        let ini = Ini::read(alloc, text).ok()?;
+        let printed = print_sections(rt, alloc, &ini);
+        drop(ini);
+        printed?;
+    }
+    Some(())
+}
+
+fn print_sections(rt: &HostRuntime, alloc: Global, ini: &Ini) -> Option<()> {
+    let mut out = String::new(alloc);
+    for section in ini.sections() {
+        push_section(&mut out, section).ok()?;
+    }
+    print_answer(rt, &out.as_str());
+    Some(())
+}
+
+fn push_section(out: &mut String, section: &Section) -> Result<(), AllocError> {
+    out.push('[')?;
+    out.push_str(section.name())?;
+    out.push(']')?;
+    for pair in section.pairs() {
+        out.push('<')?;
+        out.push_str(pair.key())?;
+        out.push('=')?;
+        out.push_str(pair.value())?;
+        out.push('>')?;
+    }
+    Ok(())
 }
 
 static DESTS: [&str; 3] = ["10.0.0.1:2004:a", "127.0.0.1:3001", "127.0.0.1"];

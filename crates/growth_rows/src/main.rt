@@ -55,12 +55,13 @@ fn main(rt: HostRuntime) -> ExitCode {
 }
 
 /// The names of all rows, by module.
-static NAMES: [&[&str]; 24] = [
+static NAMES: [&[&str]; 25] = [
     lines::NAMES,
     lines::WORKED,
     pickles::NAMES,
     pickles::WORKED,
     configurations::NAMES,
+    configurations::WORKED,
     rings::NAMES,
     rings::WORKED,
     rewriting::NAMES,

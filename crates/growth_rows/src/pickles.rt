@@ -26,10 +26,11 @@ pub(crate) fn run(rt: &HostRuntime, alloc: Global, name: &str) -> Option<()> {
 const TWO_ROWS: &[u8] = b"\x80\x02](U\x01aK\x05N\x86\x86U\x01bK\x05K\x07\x86\x86e.";
 
 /// A pickle for each fault; three that have no rows; and one of two rows.
-static PICKLES: [&[u8]; 12] = [
+static PICKLES: [&[u8]; 13] = [
     b"\x80\x02]",
     b"\x80\x06].",
     b"c.",
+    b"]cos\nsystem\nU\x02id\x85R.",
     b"]h\x00.",
     b"]q\x00h\x00.",
     b"]U\x01\xff.",

@@ -303,12 +303,15 @@ fn choose(rt: &HostRuntime, alloc: Global, ring: &Ring, choice: &Choice) -> Opti
     None
 }
 
-static KEYS: [&str; 5] = [
-    "abc",
-    "a",
+/// The texts of RFC 1321, section A.5.
+static KEYS: [&str; 7] = [
     "",
+    "a",
+    "abc",
     "message digest",
     "abcdefghijklmnopqrstuvwxyz",
+    "ABCDEFGHIJKLMNOPQRSTUVWXYZabcdefghijklmnopqrstuvwxyz0123456789",
+    "12345678901234567890123456789012345678901234567890123456789012345678901234567890",
 ];
 
 fn positions(rt: &HostRuntime) -> Option<()> {

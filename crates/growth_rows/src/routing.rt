@@ -228,33 +228,37 @@ fn print_sent(rt: &HostRuntime, sent: &Sent) {
     }
 }
 
-/// The number of names that are sent, one more than are held.
-const NAMES_HELD: usize = 4_097;
+/// Numbers of names that are sent, from the first of a pair up to the second: as many names as are held, one more, and the
+/// first again.
+static NUMBERS: [[usize; 2]; 3] = [[0, 4_096], [4_096, 4_097], [0, 1]];
 
-/// Sends datapoints of the names `a.0`, `a.1` and so on, and of `a.0` again. Prints how many of them went to the first
-/// destination alone, and how many routes are held. Then, with a plan of its own, the same of a name that is dropped, at
-/// first, after it, and after it once more.
+/// Sends datapoints of the names `a.0`, `a.1` and so on. Prints how many of them went to the first destination alone, and how
+/// many routes are held. Then, with a plan of its own, how many are held as a name is sent twice that is dropped.
 fn hold_routes(rt: &HostRuntime, alloc: Global) -> Option<()> {
     let mut plan = two_plan(alloc)?;
-    let count = send_numbered(alloc, &mut plan);
-    let _ = println!(rt; "answer {count:?} {}", plan.held());
+    let held = hold_numbered(rt, alloc, &mut plan);
     drop(plan);
+    held?;
     let mut plan = two_plan(alloc)?;
-    let held = held_as_it_drops(alloc, &mut plan);
-    print_answer(rt, &held);
+    let held = hold_dropped(rt, alloc, &mut plan);
     drop(plan);
+    held
+}
+
+fn hold_numbered(rt: &HostRuntime, alloc: Global, plan: &mut Plan) -> Option<()> {
+    for [from, to] in &NUMBERS {
+        let count = send_numbered(alloc, plan, *from, *to)?;
+        let _ = println!(rt; "answer {count} {}", plan.held());
+    }
     Some(())
 }
 
-fn send_numbered(alloc: Global, plan: &mut Plan) -> Option<usize> {
+fn send_numbered(alloc: Global, plan: &mut Plan, from: usize, to: usize) -> Option<usize> {
     let mut count: usize = 0;
-    for number in 0..NAMES_HELD {
+    for number in from..to {
         if goes_to_first(alloc, plan, number)? {
             count = count.saturating_add(1);
         }
-    }
-    if goes_to_first(alloc, plan, 0)? {
-        count = count.saturating_add(1);
     }
     Some(count)
 }
@@ -265,13 +269,11 @@ fn goes_to_first(alloc: Global, plan: &mut Plan, number: usize) -> Option<bool> 
     Some(sent.point.is_some() && sent.dests.as_slice() == [DestId(0)].as_slice())
 }
 
-fn held_as_it_drops(alloc: Global, plan: &mut Plan) -> Option<[usize; 3]> {
-    let none = plan.held();
-    let first = plan.send(&point_of(alloc, "x")?).ok()?;
-    let one = plan.held();
-    let second = plan.send(&point_of(alloc, "x")?).ok()?;
-    if first.point.is_some() || second.point.is_some() {
-        return None;
+fn hold_dropped(rt: &HostRuntime, alloc: Global, plan: &mut Plan) -> Option<()> {
+    print_answer(rt, &plan.held());
+    for _ in 0..2 {
+        let sent = plan.send(&point_of(alloc, "x")?).ok()?;
+        let _ = println!(rt; "answer {} {}", sent.point.is_some(), plan.held());
     }
-    Some([none, one, plan.held()])
+    Some(())
 }

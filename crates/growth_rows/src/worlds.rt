@@ -119,11 +119,21 @@ fn feed_all(rt: &HostRuntime, world: &mut World, moment: Moment) -> Option<()>
     ensures destinations_kept { length world.new.destinations ≡ DESTINATIONS }
 {
     apply(rt, world, &Event::Take(0), moment)?;
-    apply(rt, world, &Event::Piece(1, b"z 1 5\nz 2 5\n", moment), moment)?;
+    apply(
+        rt,
+        world,
+        &Event::Piece(1, b"z 1 5\nz 2 5\n", moment),
+        moment,
+    )?;
     apply(rt, world, &Event::Offer(1), moment)?;
     apply(rt, world, &Event::Offer(1), moment)?;
     apply(rt, world, &Event::Piece(0, b"bad\na.x 1", moment), moment)?;
-    apply(rt, world, &Event::Piece(0, b" 5\nq 3 5\na.y 2 5\n", moment), moment)
+    apply(
+        rt,
+        world,
+        &Event::Piece(0, b" 5\nq 3 5\na.y 2 5\n", moment),
+        moment,
+    )
 }
 
 fn send_all(rt: &HostRuntime, world: &mut World, moment: Moment) -> Option<()>
