@@ -173,5 +173,5 @@ class Definitions(unittest.TestCase):
     def test_helpers_are_refused(self):
         """What only helps a test is none."""
         for file, name in (("e2e/beside/ring.py", "edge_names"), ("e2e/beside/ring.py", "Walks"), ("e2e/refusals.py", "is_owed_by_row"),
-                           ("e2e/cases/replay.py", "in_two"), ("core_tests/src/tests/ring_keys.rt", "is_at")):
+                           ("e2e/cases/replay.py", "in_two"), ("core_tests/src/tests/line_pieces.rt", "is_cut")):
             self.assertFalse(is_test(file, name), name)

@@ -1,83 +1,10 @@
-//! Pickles: their faults, and names that a reader shares.
+//! Pickles: names that a reader shares.
 
+use crate::tests::points::shared_name;
 use line_text::{Moment, Name, SharedNames};
-use pickle_subset::{PickleFault, PickleReader, load};
+use pickle_subset::PickleReader;
 use std::alloc::Global;
 use std::sync::Arc;
-
-/// A pickle, and its fault.
-struct Refused {
-    pickle: &'static [u8],
-    fault: Option<PickleFault>,
-}
-
-static REFUSED: [Refused; 11] = [
-    Refused {
-        pickle: b"\x80\x02]",
-        fault: Some(PickleFault::Truncated),
-    },
-    Refused {
-        pickle: b"\x80\x06].",
-        fault: Some(PickleFault::UnknownOpcode),
-    },
-    Refused {
-        pickle: b"]h\x00.",
-        fault: Some(PickleFault::BadMemo),
-    },
-    Refused {
-        pickle: b"]q\x00h\x00.",
-        fault: Some(PickleFault::BadShape),
-    },
-    Refused {
-        pickle: b"]U\x01\xff.",
-        fault: Some(PickleFault::BadText),
-    },
-    Refused {
-        pickle: b"\x80\x02]q\x00.",
-        fault: None,
-    },
-    Refused {
-        pickle: b"](X\xff\xff\xff\xff",
-        fault: Some(PickleFault::Truncated),
-    },
-    Refused {
-        pickle: b"](T\xff\xff\xff\xff",
-        fault: Some(PickleFault::BadText),
-    },
-    Refused {
-        pickle: b"](e.",
-        fault: None,
-    },
-    Refused {
-        pickle: b"\x80\x04\x95\xff\xff\xff\xff\xff\xff\xff\xff]\x94.",
-        fault: None,
-    },
-    Refused {
-        pickle: b"]cos\nsystem\nU\x02id\x85R.",
-        fault: Some(PickleFault::UnknownOpcode),
-    },
-];
-
-// Whether a pickle has that fault, or no rows if there is none.
-fn is_so(alloc: Global, pickle: &[u8], fault: Option<PickleFault>) -> bool {
-    match load(alloc, pickle) {
-        Ok(rows) => fault.is_none() && rows.is_empty(),
-        Err(found) => fault == Some(found),
-    }
-}
-
-#[test]
-fn refused_pickles(rt: HostRuntime) {
-    for case in &REFUSED {
-        assert!(rt;
-            is_so(rt.alloc(), case.pickle, case.fault),
-            "at {:?}",
-            case.pickle
-        );
-    }
-}
-
-// ---- names that are shared
 
 /// Two rows, as Python writes them in protocol 2; the second has its path from the memo.
 const TWO_ROWS: &[u8] =
@@ -111,9 +38,8 @@ fn owners_once_found(alloc: Global, reader: &mut PickleReader, names: &OneName) 
 }
 
 fn owners_of(alloc: Global, held: &str) -> Option<usize> {
-    let name = Name::read(alloc, held.as_bytes()).ok()?;
     let names = OneName {
-        name: Arc::new(alloc, name).ok()?,
+        name: shared_name(alloc, held)?,
     };
     let mut reader = PickleReader::new(alloc);
     let owners = owners_once_found(alloc, &mut reader, &names);

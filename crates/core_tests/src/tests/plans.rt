@@ -1,5 +1,6 @@
-//! What a plan remembers of names, which no clause says: by the number of owners of a name, and by the routes that it holds.
+//! What a plan remembers of names, which no clause says: by the number of owners of a name, and by which it shares with lines.
 
+use crate::tests::points::shared_name;
 use line_text::{Name, Point, SharedNames, Value};
 use router::Plan;
 use std::alloc::Global;
@@ -9,11 +10,6 @@ use worked_files::{ONE_DESTINATION, REWRITE, ring_plan};
 // A plan that rewrites. Its owner lends it to what tries it, and then drops it: one call.
 fn plan_of(alloc: Global) -> Option<Plan> {
     ring_plan(alloc, ONE_DESTINATION, REWRITE)
-}
-
-fn name_of(alloc: Global, text: &str) -> Option<Arc<Name>> {
-    let name = Name::read(alloc, text.as_bytes()).ok()?;
-    Arc::new(alloc, name).ok()
 }
 
 // What a plan sends of a datapoint of this name: nothing if rewriting drops it.
@@ -27,14 +23,22 @@ fn sent_of(alloc: Global, plan: &mut Plan, name: Arc<Name>) -> Option<Option<Arc
     plan.send_into(point, &mut dests).ok()
 }
 
+// Sends a datapoint of this name, which rewriting does not drop.
+fn send(alloc: Global, plan: &mut Plan, text: &str) -> Option<()> {
+    let sent = sent_of(alloc, plan, shared_name(alloc, text)?)?;
+    let is_sent = sent.is_some();
+    drop(sent);
+    is_sent.then_some(())
+}
+
 // ---- what owns a name
 
 // The numbers of owners of a name that a plan received, and of the one that it sent in its place, once it was sent twice:
 // this function, the plan's two tables, which share the route of a name that is rewritten, and what was sent.
 fn owners_in(alloc: Global, plan: &mut Plan, text: &str) -> Option<[usize; 2]> {
-    let name = name_of(alloc, text)?;
+    let name = shared_name(alloc, text)?;
     let first = sent_of(alloc, plan, Arc::try_clone(&name).ok()?)??;
-    let _second = sent_of(alloc, plan, name_of(alloc, text)?)??;
+    let _second = sent_of(alloc, plan, shared_name(alloc, text)?)??;
     Some([Arc::strong_count(&name), Arc::strong_count(&first.name)])
 }
 
@@ -79,7 +83,7 @@ fn shares_in(
     text: &str,
 ) -> Option<bool> {
     for _ in 0..2 {
-        let _sent = sent_of(alloc, plan, name_of(alloc, "d.mem")?)??;
+        send(alloc, plan, "d.mem")?;
     }
     plan.prefetch(ahead.as_bytes());
     for _ in 0..others {
@@ -108,12 +112,21 @@ fn a_remembered_name_is_shared_with_lines(rt: HostRuntime) {
     assert!(rt; shares(rt.alloc(), "", 0, "") == Some(false));
 }
 
+// Sends datapoints of this number of names: `a.0`, `a.1` and so on.
+fn send_others(alloc: Global, plan: &mut Plan, count: usize) -> Option<()> {
+    for number in 0..count {
+        let text = format!(in alloc; "a.{number}").ok()?;
+        send(alloc, plan, text.as_str())?;
+    }
+    Some(())
+}
+
 // Whether a plan shares a name after each of two datapoints of it, with this many other names between them.
 fn shares_after_each(alloc: Global, plan: &mut Plan, others: usize) -> Option<[bool; 2]> {
-    let _first = sent_of(alloc, plan, name_of(alloc, "d.mem")?)??;
+    send(alloc, plan, "d.mem")?;
     let once = plan.shared(b"d.mem").is_some();
-    let _held = held_in(alloc, plan, "a.", others)?;
-    let _second = sent_of(alloc, plan, name_of(alloc, "d.mem")?)??;
+    send_others(alloc, plan, others)?;
+    send(alloc, plan, "d.mem")?;
     Some([once, plan.shared(b"d.mem").is_some()])
 }
 
@@ -129,52 +142,4 @@ fn shares_when_it_comes_again(alloc: Global, others: usize) -> Option<[bool; 2]>
 fn a_name_is_remembered_for_long_when_it_comes_again(rt: HostRuntime) {
     assert!(rt; shares_when_it_comes_again(rt.alloc(), 0) == Some([false, true]));
     assert!(rt; shares_when_it_comes_again(rt.alloc(), 5_000) == Some([false, true]));
-}
-
-// ---- how many recent routes are held
-
-// The number of routes that a plan holds once it was sent these names: a text with each of the numbers below a count.
-fn held_in(alloc: Global, plan: &mut Plan, text: &str, count: usize) -> Option<usize> {
-    for number in 0..count {
-        let name = format!(in alloc; "{text}{number}").ok()?;
-        let _sent = sent_of(alloc, plan, name_of(alloc, name.as_str())?)?;
-    }
-    Some(plan.held())
-}
-
-fn held_of(alloc: Global, text: &str, count: usize) -> Option<usize> {
-    let mut plan = plan_of(alloc)?;
-    let held = held_in(alloc, &mut plan, text, count);
-    drop(plan);
-    held
-}
-
-#[test]
-fn the_most_recent_routes_are_held(rt: HostRuntime) {
-    assert!(rt; held_of(rt.alloc(), "a.", 4_096) == Some(4_096));
-    assert!(rt; held_of(rt.alloc(), "a.", 4_097) == Some(4_096));
-}
-
-// The numbers of routes that a plan holds after none, one and two datapoints of a name that rewriting drops.
-fn held_as_it_drops(alloc: Global, plan: &mut Plan) -> Option<[usize; 3]> {
-    let none = plan.held();
-    let first = sent_of(alloc, plan, name_of(alloc, "x")?)?;
-    let one = plan.held();
-    let second = sent_of(alloc, plan, name_of(alloc, "x")?)?;
-    if first.is_some() || second.is_some() {
-        return None;
-    }
-    Some([none, one, plan.held()])
-}
-
-fn held_of_a_dropped_name(alloc: Global) -> Option<[usize; 3]> {
-    let mut plan = plan_of(alloc)?;
-    let held = held_as_it_drops(alloc, &mut plan);
-    drop(plan);
-    held
-}
-
-#[test]
-fn a_dropped_name_is_held_once(rt: HostRuntime) {
-    assert!(rt; held_of_a_dropped_name(rt.alloc()) == Some([0, 1, 1]));
 }

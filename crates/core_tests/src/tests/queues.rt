@@ -2,25 +2,15 @@
 
 ghost use Rattle.std.specs.Prelude.{◌≤◌};
 
+use crate::tests::points::point;
 use dest_queue::{DestQueue, Hand, Kept, LARGEST_SIZE, MOST_STEPS, NoMemory, Step};
-use line_text::{Name, Point, Value};
+use line_text::Point;
 use std::alloc::Global;
 use std::sync::Arc;
 
 #[test]
 fn a_hand_too_large_for_memory(rt: HostRuntime) {
     assert!(rt; matches!(Hand::new(rt.alloc(), usize::MAX), Err(NoMemory)));
-}
-
-/// A datapoint of this name.
-fn point_of(alloc: Global, name: &str) -> Option<Arc<Point>> {
-    let name = Name::read(alloc, name.as_bytes()).ok()?;
-    let point = Point {
-        name: Arc::new(alloc, name).ok()?,
-        value: Value::of_whole(42),
-        time: 1_700_000_000,
-    };
-    Arc::new(alloc, point).ok()
 }
 
 /// How many offers and takes of one datapoint each fill a history.
@@ -43,8 +33,8 @@ impl Passing {
         requires { (1 ≤ size) × (size ≤ LARGEST_SIZE) }
     {
         Some(Passing {
-            point: point_of(alloc, "a.b")?,
-            other: point_of(alloc, "c.d")?,
+            point: point(alloc, "a.b")?,
+            other: point(alloc, "c.d")?,
             hand: Hand::new(alloc, 1).ok()?,
             queue: DestQueue::new(alloc, size, 1).ok()?,
             next: 0,

@@ -2,11 +2,10 @@
 
 ghost use Rattle.std.specs.Prelude.{◌≡◌, true, IfSome};
 
+use crate::tests::points::point_of_line;
 use dest_queue::{DestQueue, Hand};
 use dest_writer::Writer;
-use line_text::{Moment, Point};
 use std::alloc::Global;
-use std::sync::Arc;
 
 /// Lines of six bytes each.
 pub static LINES: [&[u8]; 3] = [b"a 1 2", b"b 3 4", b"c 5 6"];
@@ -67,13 +66,7 @@ fn offer_lines(alloc: Global, queue: &mut DestQueue, count: usize) -> Option<()>
 
 /// Offers a line to a queue as the reader's offer of this number.
 fn offer_line(alloc: Global, queue: &mut DestQueue, number: usize) -> Option<()> {
-    let point = point_of(alloc, LINES[number % LINES.len()])?;
+    let point = point_of_line(alloc, LINES[number % LINES.len()])?;
     queue.offer(0, number as u64, &point).ok()?;
     Some(())
-}
-
-/// The datapoint of a line.
-fn point_of(alloc: Global, line: &[u8]) -> Option<Arc<Point>> {
-    let point = Point::read_line(alloc, line, Moment::new(0)?).ok()??;
-    Arc::new(alloc, point).ok()
 }

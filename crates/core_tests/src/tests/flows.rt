@@ -1,0 +1,255 @@
+//! Datapoints on their way through threads: over two receivers of lines, locked queues and a sender to stores. With two
+//! queues the first receiver is held inside its queue until the offer of the second at the other queue was answered.
+
+ghost use Rattle.std.specs.Prelude.{◌≡◌};
+
+use crate::tests::flow_parts::{Common, FlowRuntime, Parts, Producer, Records, in_threads};
+use crate::tests::gates::HoldsFirst;
+use crate::tests::shapes::{Shape, open_set};
+use crate::tests::stores::Store;
+use dest_queue::Counts;
+use locked_queues::{BlankTotals, Opened, Queues, Set};
+use relay_base::DestId;
+use senders::Resolve;
+use std::alloc::Global;
+use std::marker::Brand;
+use std::net::{Net, TcpListener, TcpStream};
+use std::rt::Clock;
+use std::sync::Wait;
+use std::sync::atomic::{AtomicBool, Ordering};
+use std::thread::Threads;
+
+/// What two producers send, what each store may get then, and how much each queue has counted.
+struct Case {
+    shape: Shape,
+    // Whether the first receiver is held inside queue 0.
+    is_held: bool,
+    sent: [&'static [u8]; 2],
+    texts: &'static [&'static [&'static [u8]]],
+    // How many datapoints each queue got, kept and gave.
+    kept: &'static [u64],
+}
+
+/// What a queue has counted after this many datapoints, all kept and taken.
+fn all_of(count: u64) -> Counts {
+    Counts {
+        offered: count,
+        kept: count,
+        dropped: 0,
+        taken: count,
+        queued: 0,
+        seals: 0,
+    }
+}
+
+/// One queue of two receivers: the store gets 24 bytes, each producer's lines in order. And a queue for each receiver.
+static CASES: [Case; 2] = [
+    Case {
+        shape: Shape {
+            name: 1,
+            dests: 1,
+            size: 10,
+            receivers: 2,
+            senders: 1,
+        },
+        is_held: false,
+        sent: [b"a.1 1 5\na.2 2 5\n", b"a.3 3 5\n"],
+        texts: &[&[
+            b"a.1 1 5\na.2 2 5\na.3 3 5\n",
+            b"a.1 1 5\na.3 3 5\na.2 2 5\n",
+            b"a.3 3 5\na.1 1 5\na.2 2 5\n",
+        ]],
+        kept: &[3],
+    },
+    Case {
+        shape: Shape {
+            name: 2,
+            dests: 2,
+            size: 10,
+            receivers: 2,
+            senders: 1,
+        },
+        is_held: true,
+        sent: [b"a 1 2\n", b"b 3 4\n"],
+        texts: &[&[b"a 1 2\n"], &[b"b 3 4\n"]],
+        kept: &[1, 1],
+    },
+];
+
+/// A store for each destination.
+fn stores_of<R: FlowRuntime>(rt: &R, alloc: Global, case: &Case) -> Option<Vec<Store>> {
+    let mut stores = Vec::new(alloc);
+    for _ in case.texts {
+        stores.push(Store::new(rt, alloc)?).ok()?;
+    }
+    Some(stores)
+}
+
+/// A ring of these stores, the first with the instance `a`, the second with `b`. It sends the names of each case to the
+/// store of the same place: the ring places nodes by their hosts and instances.
+fn ring_of(alloc: Global, stores: &[Store]) -> Option<String> {
+    let first = stores.first()?.port()?;
+    let dests = match stores.get(1) {
+        Some(second) => {
+            format!(in alloc; "127.0.0.1:{first}:a, 127.0.0.1:{}:b", second.port()?).ok()?
+        }
+        None => format!(in alloc; "127.0.0.1:{first}:a").ok()?,
+    };
+    format!(in alloc;
+        "\
+[relay]
+DESTINATIONS = {dests}
+RELAY_METHOD = consistent-hashing
+USE_FLOW_CONTROL = False
+DESTINATION_PROTOCOL = line
+"
+    )
+    .ok()
+}
+
+/// Whether the queues and the records agree on what was counted.
+fn are_settled<B: Set, R: Wait>(
+    rt: &R,
+    alloc: Global,
+    queues: &mut Queues<B>,
+    records: Records,
+    case: &Case,
+) -> Option<bool>
+    requires { case.now.shape.dests ≡ B.dests }
+{
+    let Records {
+        doors: [first, second],
+        outlet,
+    } = records;
+    let (doors, outlets) = ([first?, second?], [outlet?]);
+    for (dest, kept) in case.kept.iter().enumerate() {
+        if dest >= case.shape.dests || queues.counts(rt, DestId(dest)) != all_of(*kept) {
+            return Some(false);
+        }
+    }
+    let settled = queues.settle(alloc, &doors, &outlets);
+    let are_settled = match &settled {
+        Ok(settled) => are_counted(&settled.counts, case),
+        Err(_) => false,
+    };
+    drop(settled);
+    Some(are_settled)
+}
+
+/// Whether all queues of a settling have these counts.
+fn are_counted(counts: &[Counts], case: &Case) -> bool {
+    counts.len() == case.kept.len()
+        && counts
+            .iter()
+            .zip(case.kept)
+            .all(|(counts, kept)| *counts == all_of(*kept))
+}
+
+/// Whether each store got one of its texts.
+fn are_delivered(stores: &[Store], case: &Case) -> bool {
+    stores.len() == case.texts.len()
+        && stores
+            .iter()
+            .zip(case.texts)
+            .all(|(store, texts)| texts.contains(&store.taken()))
+}
+
+/// Whether all went through to the stores, and the queues and the records agree on it.
+fn is_moved_to<B: Set + Send + Sync, R: FlowRuntime>(
+    rt: &R,
+    alloc: Global,
+    queues: &mut Queues<B>,
+    parts: Parts<B>,
+    stores: &mut Vec<Store>,
+    case: &Case,
+) -> Option<bool>
+    requires { case.now.shape.dests ≡ B.dests }
+{
+    let gate = HoldsFirst {
+        is_held: AtomicBool::new(false),
+        is_released: AtomicBool::new(!case.is_held),
+        has_given_up: AtomicBool::new(false),
+    };
+    let config = ring_of(alloc, stores)?;
+    let stop = AtomicBool::new(false);
+    let mut counts = Vec::new(alloc);
+    for texts in case.texts {
+        counts.push(texts.first()?.len()).ok()?;
+    }
+    let common = Common {
+        queues,
+        dests: case.shape.dests,
+        gate: &gate,
+        config: config.as_str(),
+        stop: &stop,
+    };
+    let records = in_threads(rt, alloc, &common, parts, stores, &counts)?;
+    let is_settled = are_settled(rt, alloc, queues, records, case)?;
+    Some(is_settled && are_delivered(stores, case) && !gate.has_given_up.load(Ordering::SeqCst))
+}
+
+/// Whether a set of the case's shape moves all.
+fn set_moves<B: Set + Send + Sync, R: FlowRuntime>(
+    rt: &R,
+    alloc: Global,
+    blank: BlankTotals,
+    case: &Case,
+) -> Option<bool>
+    requires table { blank ≡ B.table }
+    requires name { case.now.shape.name ≡ B.name }
+    requires dests { case.now.shape.dests ≡ B.dests }
+    requires receivers { case.now.shape.receivers ≡ B.receivers }
+    requires senders { case.now.shape.senders ≡ B.senders }
+    requires size { case.now.shape.size ≡ B.size }
+{
+    let first = Producer::new(rt, alloc, case.sent[0])?;
+    let second = Producer::new(rt, alloc, case.sent[1])?;
+    let mut stores = stores_of(rt, alloc, case)?;
+    let Opened {
+        mut queues,
+        doors,
+        outlets,
+    } = open_set::<B>(alloc, blank, case.shape)?;
+    let parts = Parts {
+        doors,
+        outlets,
+        first,
+        second,
+    };
+    let is_moved = is_moved_to(rt, alloc, &mut queues, parts, &mut stores, case);
+    drop(queues);
+    drop(stores);
+    is_moved
+}
+
+/// Whether that is so of both cases.
+fn all_are_moved<
+    R: Threads
+        + Wait
+        + Clock
+        + Net<Listener = TcpListener, Stream = TcpStream>
+        + Resolve
+        + Copy
+        + Send
+        + Sync
+        + Drop
+        + 'static,
+>(rt: &R, alloc: Global) -> bool {
+    let mut all = true;
+    for case in &CASES {
+        all = all && is_moved(rt, alloc, case);
+    }
+    all
+}
+
+fn is_moved<R: FlowRuntime>(rt: &R, alloc: Global, case: &Case) -> bool {
+    match BlankTotals::new(alloc) {
+        Ok(blank) => set_moves::<Brand, R>(rt, alloc, blank, case) == Some(true),
+        Err(_) => false,
+    }
+}
+
+#[test]
+fn threads_move_datapoints(rt: HostRuntime) {
+    assert!(rt; all_are_moved(&rt, rt.alloc()));
+}
