@@ -23,7 +23,7 @@ use std::sync::Wait;
 use std::sync::atomic::{AtomicBool, Ordering};
 use std::thread::Threads;
 use std::{net, thread};
-use worked_files::{ring_plan, settings_of};
+use worked_files::ring_plan;
 
 /// What the parts need of the system. It is short for these bounds, and each type that meets them implements it. What runs
 /// in a thread has the bounds themselves: the check of borrows does not cover the short form there.
@@ -60,6 +60,8 @@ pub(crate) struct Common<'c, B: Set> {
     pub(crate) dests: usize,
     pub(crate) gate: &'c HoldsFirst,
     pub(crate) config: &'c str,
+    // The destinations of that configuration.
+    pub(crate) listed: &'c str,
     pub(crate) stop: &'c AtomicBool,
     pub ghost all: { dests ≡ B.dests },
 }
@@ -139,12 +141,12 @@ fn send<B: Set, R: Threads + Wait + Clock + Net + Resolve + Copy + Send + Drop +
     common: &Common<'_, B>,
     seat: OutletSeat<B>,
 ) -> Option<OutletRecord> {
-    let Some(settings) = settings_of(alloc, common.config) else {
+    let Ok(dests) = Dest::read_list(alloc, common.listed) else {
         drop(seat);
         return None;
     };
-    let sent = send_to(rt, alloc, common, seat, settings.destinations());
-    drop(settings);
+    let sent = send_to(rt, alloc, common, seat, &dests);
+    drop(dests);
     sent
 }
 
@@ -172,6 +174,17 @@ fn alarm_of(readiness: &Option<Readiness>) -> Option<Alarm> {
     Alarm::new(readiness.as_ref()?).ok()
 }
 
+/// The connector of one sender to these stores. It is made last, so that nothing here drops it, which would be dear to prove.
+fn connector_of<'g, R: Threads + Wait + Clock + Net + Resolve + Copy + Send + Drop + 'static>(
+    rt: &R,
+    alloc: Global,
+    readiness: Option<Readiness>,
+    alarm: &'g Alarm,
+    dests: &[Dest],
+) -> Option<StoreConnector<'g, R>> {
+    StoreConnector::new(*rt, alloc, readiness?, alarm, dests, 0, 1).ok()
+}
+
 fn send_by<B: Set, R: Threads + Wait + Clock + Net + Resolve + Copy + Send + Drop + 'static>(
     rt: &R,
     alloc: Global,
@@ -181,18 +194,14 @@ fn send_by<B: Set, R: Threads + Wait + Clock + Net + Resolve + Copy + Send + Dro
     readiness: Option<Readiness>,
     alarm: &Alarm,
 ) -> Option<OutletRecord> {
-    let connector = match readiness {
-        Some(readiness) => StoreConnector::new(*rt, alloc, readiness, alarm, dests, 0, 1).ok(),
-        None => None,
-    };
-    let Some(connector) = connector else {
+    if dests.is_empty() || dests.len() > MOST_DESTS {
+        drop((outlet, readiness));
+        return None;
+    }
+    let Some(connector) = connector_of(rt, alloc, readiness, alarm, dests) else {
         drop(outlet);
         return None;
     };
-    if dests.is_empty() || dests.len() > MOST_DESTS {
-        drop((outlet, connector));
-        return None;
-    }
     let (times, count, stop) = (SystemTimes::new(rt), dests.len(), common.stop);
     let SenderRecord {
         outlet,

@@ -85,20 +85,24 @@ fn stores_of<R: FlowRuntime>(rt: &R, alloc: Global, case: &Case) -> Option<Vec<S
     Some(stores)
 }
 
-/// A ring of these stores, the first with the instance `a`, the second with `b`. It sends the names of each case to the
-/// store of the same place: the ring places nodes by their hosts and instances.
-fn ring_of(alloc: Global, stores: &[Store]) -> Option<String> {
+/// These stores as destinations, the first with the instance `a`, the second with `b`. A ring of them sends the names of each
+/// case to the store of the same place: it places nodes by their hosts and instances.
+fn list_of(alloc: Global, stores: &[Store]) -> Option<String> {
     let first = stores.first()?.port()?;
-    let dests = match stores.get(1) {
+    match stores.get(1) {
         Some(second) => {
-            format!(in alloc; "127.0.0.1:{first}:a, 127.0.0.1:{}:b", second.port()?).ok()?
+            format!(in alloc; "127.0.0.1:{first}:a, 127.0.0.1:{}:b", second.port()?).ok()
         }
-        None => format!(in alloc; "127.0.0.1:{first}:a").ok()?,
-    };
+        None => format!(in alloc; "127.0.0.1:{first}:a").ok(),
+    }
+}
+
+/// A ring of these destinations.
+fn ring_of(alloc: Global, listed: &str) -> Option<String> {
     format!(in alloc;
         "\
 [relay]
-DESTINATIONS = {dests}
+DESTINATIONS = {listed}
 RELAY_METHOD = consistent-hashing
 USE_FLOW_CONTROL = False
 DESTINATION_PROTOCOL = line
@@ -170,7 +174,8 @@ fn is_moved_to<B: Set + Send + Sync, R: FlowRuntime>(
         is_released: AtomicBool::new(!case.is_held),
         has_given_up: AtomicBool::new(false),
     };
-    let config = ring_of(alloc, stores)?;
+    let listed = list_of(alloc, stores)?;
+    let config = ring_of(alloc, listed.as_str())?;
     let stop = AtomicBool::new(false);
     let mut counts = Vec::new(alloc);
     for texts in case.texts {
@@ -181,6 +186,7 @@ fn is_moved_to<B: Set + Send + Sync, R: FlowRuntime>(
         dests: case.shape.dests,
         gate: &gate,
         config: config.as_str(),
+        listed: listed.as_str(),
         stop: &stop,
     };
     let records = in_threads(rt, alloc, &common, parts, stores, &counts)?;
