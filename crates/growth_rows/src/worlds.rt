@@ -6,7 +6,7 @@ use crate::marks::{begin, end, print_answer, print_state, print_text};
 use crate::routing::two_plan;
 use line_text::{Moment, Point};
 use reader_core::ReaderKind;
-use relay_core::{Event, World};
+use relay_core::{Answer, Event, NoMemory, World};
 use router::Plan;
 use std::alloc::Global;
 
@@ -107,7 +107,7 @@ fn apply_in_turn(rt: &HostRuntime, world: &mut World, moment: Moment) -> Option<
     requires destinations { length world.old.destinations ≡ DESTINATIONS }
 {
     feed_all(rt, world, moment)?;
-    send_all(rt, world, moment)?;
+    send_all(rt, world)?;
     print_world(rt, world);
     Some(())
 }
@@ -118,46 +118,36 @@ fn feed_all(rt: &HostRuntime, world: &mut World, moment: Moment) -> Option<()>
     ensures readers_kept { length world.new.readers ≡ DESTINATIONS }
     ensures destinations_kept { length world.new.destinations ≡ DESTINATIONS }
 {
-    apply(rt, world, &Event::Take(0), moment)?;
-    apply(
-        rt,
-        world,
-        &Event::Piece(1, b"z 1 5\nz 2 5\n", moment),
-        moment,
-    )?;
-    apply(rt, world, &Event::Offer(1), moment)?;
-    apply(rt, world, &Event::Offer(1), moment)?;
-    apply(rt, world, &Event::Piece(0, b"bad\na.x 1", moment), moment)?;
-    apply(
-        rt,
-        world,
-        &Event::Piece(0, b" 5\nq 3 5\na.y 2 5\n", moment),
-        moment,
-    )
+    apply(rt, world, &Event::Take(0))?;
+    apply(rt, world, &Event::Piece(1, b"z 1 5\nz 2 5\n", moment))?;
+    apply(rt, world, &Event::Offer(1))?;
+    apply(rt, world, &Event::Offer(1))?;
+    apply(rt, world, &Event::Piece(0, b"bad\na.x 1", moment))?;
+    apply(rt, world, &Event::Piece(0, b" 5\nq 3 5\na.y 2 5\n", moment))
 }
 
-fn send_all(rt: &HostRuntime, world: &mut World, moment: Moment) -> Option<()>
+fn send_all(rt: &HostRuntime, world: &mut World) -> Option<()>
     requires readers { length world.old.readers ≡ DESTINATIONS }
     requires destinations { length world.old.destinations ≡ DESTINATIONS }
     ensures readers_kept { length world.new.readers ≡ DESTINATIONS }
     ensures destinations_kept { length world.new.destinations ≡ DESTINATIONS }
 {
-    apply(rt, world, &Event::Up(0), moment)?;
-    apply(rt, world, &Event::Offer(0), moment)?;
-    apply(rt, world, &Event::Offer(0), moment)?;
-    apply(rt, world, &Event::Offer(0), moment)?;
-    apply(rt, world, &Event::Take(0), moment)?;
-    apply(rt, world, &Event::Wrote(0, 8), moment)
+    apply(rt, world, &Event::Up(0))?;
+    apply(rt, world, &Event::Offer(0))?;
+    apply(rt, world, &Event::Offer(0))?;
+    apply(rt, world, &Event::Offer(0))?;
+    apply(rt, world, &Event::Take(0))?;
+    apply(rt, world, &Event::Wrote(0, 8))
 }
 
 /// Applies an event, and once more if it was refused.
-fn apply(rt: &HostRuntime, world: &mut World, event: &Event<'_>, moment: Moment) -> Option<()>
+fn apply(rt: &HostRuntime, world: &mut World, event: &Event<'_>) -> Option<()>
     requires readers { length world.old.readers ≡ DESTINATIONS }
     requires destinations { length world.old.destinations ≡ DESTINATIONS }
     ensures readers_kept { length world.new.readers ≡ DESTINATIONS }
     ensures destinations_kept { length world.new.destinations ≡ DESTINATIONS }
 {
-    if is_applied(rt, world, event, moment) || is_applied(rt, world, event, moment) {
+    if is_applied(rt, world, event) || is_applied(rt, world, event) {
         Some(())
     } else {
         None
@@ -165,7 +155,7 @@ fn apply(rt: &HostRuntime, world: &mut World, event: &Event<'_>, moment: Moment)
 }
 
 /// Prints a world and applies an event to it. Returns whether it was not refused.
-fn is_applied(rt: &HostRuntime, world: &mut World, event: &Event<'_>, _moment: Moment) -> bool
+fn is_applied(rt: &HostRuntime, world: &mut World, event: &Event<'_>) -> bool
     requires readers { length world.old.readers ≡ DESTINATIONS }
     requires destinations { length world.old.destinations ≡ DESTINATIONS }
     ensures readers_kept { length world.new.readers ≡ DESTINATIONS }
@@ -173,7 +163,7 @@ fn is_applied(rt: &HostRuntime, world: &mut World, event: &Event<'_>, _moment: M
 {
     print_world(rt, world);
     begin(rt);
-    let answer = world.apply(*event);
+    let answer = apply_to(world, event);
     end(rt);
     print_answer(rt, &answer);
     answer.is_ok()
@@ -201,5 +191,23 @@ fn print_dest(rt: &HostRuntime, world: &World, dest: usize)
     let _ = println!(rt; "state {counts:?} {dropped}");
     for bytes in world.handed(dest) {
         print_text(rt, "state", bytes);
+    }
+}
+
+/// Applies an event to a world.
+fn apply_to(world: &mut World, event: &Event<'_>) -> Result<Answer, NoMemory>
+    ensures readers { length world.new.readers ≡ length world.old.readers }
+    ensures destinations { length world.new.destinations ≡ length world.old.destinations }
+{
+    match event {
+        Event::Piece(reader, bytes, moment) => {
+            world.apply(Event::Piece(*reader, bytes, *moment))
+        }
+        Event::End(reader) => world.apply(Event::End(*reader)),
+        Event::Offer(reader) => world.apply(Event::Offer(*reader)),
+        Event::Take(dest) => world.apply(Event::Take(*dest)),
+        Event::Up(dest) => world.apply(Event::Up(*dest)),
+        Event::Wrote(dest, count) => world.apply(Event::Wrote(*dest, *count)),
+        Event::Down(dest) => world.apply(Event::Down(*dest)),
     }
 }
