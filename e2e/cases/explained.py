@@ -251,7 +251,9 @@ class OfFiles(WithFiles):
         self.explained(("check",), {"rules": self.folder}, ["Is a directory"])
 
     def test_a_name_that_is_none(self):
-        self.explained(("route", "a b"), {}, ["found `a b`", "cure: give the name without value"])
+        self.explained(("route", "a b"), {}, [
+            "found `a b`; expected: 1 to 16384 bytes, none of them white space or a control byte",
+            "cure: give the name without value and time; in a shell, put a name with tags in quotes"])
 
     def test_strict(self):
         for files, *wanted in GOOD:
@@ -505,4 +507,5 @@ class OfLines(Suite):
 
     def test_many_bad_lines(self):
         notes = [b"line %d: not three fields, name, value and time: a" % n for n in range(1, 11)]
+        self.explained(b"a\n" * 12, *notes, b"2 more bad lines in that second", in_all(12, FIELDS, "a, a, a"))
         self.explained(b"a\n" * 5000, *notes, b"4990 more bad lines in that second", in_all(5000, FIELDS, "a, a, a"))

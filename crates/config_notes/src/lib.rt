@@ -10,7 +10,7 @@
 //! ```
 //!
 //! A note is a line, `relayd: note: ..`; `docs/FAULTS.md` lists them. All calls are proved safe and terminating; the
-//! texts are tested (`core_tests`).
+//! texts are tested (`e2e/cases/explained.py`; of memory `core_tests`).
 #![tactic(auto)]
 
 mod carbon_effects;

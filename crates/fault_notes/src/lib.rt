@@ -13,7 +13,7 @@
 //! ```
 //!
 //! A note is a line, `relayd: note: ..`; `docs/FAULTS.md` lists them. All calls are proved safe and terminating, and a
-//! watched input is proved to pass on its bytes; the texts are tested (`core_tests`).
+//! watched input is proved to pass on its bytes; the texts are tested (`e2e/cases/explained.py`).
 #![tactic(auto)]
 
 mod cause;

@@ -6,7 +6,7 @@
 //! - [`NearestKey`] is the key that an unknown one may be meant for.
 //!
 //! `fault_notes` says why something was refused, `config_notes` what a good configuration may not intend. All calls are
-//! proved safe and terminating; the texts are tested (`core_tests`).
+//! proved safe and terminating; the texts are tested (`e2e/cases/explained.py`).
 #![tactic(auto)]
 
 mod escaped;
