@@ -16,7 +16,7 @@ _relayd() {
         before=${COMP_WORDS[COMP_CWORD-2]}
     fi
     if [ "$COMP_CWORD" -eq 1 ]; then
-        mapfile -t COMPREPLY < <(compgen -W "pass check route replay run report stop restart help -h --help -V --version" -- "$word")
+        mapfile -t COMPREPLY < <(compgen -W "pass check route replay run report stop restart reload help -h --help -V --version" -- "$word")
         return
     fi
     case $before in
@@ -42,9 +42,9 @@ _relayd() {
             options="--config --rules --rewrite --longest-name --admin --senders --line-receivers --idle --drain --spool --status --status-interface --log --record --explain" ;;
         report) options="--admin" ;;
         stop) options="--admin --wait" ;;
-        restart) options="--config --rules --rewrite --longest-name --explain --admin" ;;
+        restart|reload) options="--config --rules --rewrite --longest-name --explain --admin" ;;
         help)
-            mapfile -t COMPREPLY < <(compgen -W "pass check route replay run report stop restart help" -- "$word")
+            mapfile -t COMPREPLY < <(compgen -W "pass check route replay run report stop restart reload help" -- "$word")
             return ;;
         *) return ;;
     esac

@@ -131,6 +131,34 @@ class Asked(WithRelays):
                 self.asks(Ran(3, b"", FAULT % fault), "stop", "--admin", port)
             self.assertEqual(read, [b"stop\n"])
 
+    def test_a_reload(self):
+        """What is sent names the files; what is answered is the output, or the fault with the status that it has."""
+        named = ("--config", "/a b/relay.conf", "--rules", "/r", "--rewrite", "/w", "--longest-name", "1024")
+        lines = b"reload\nconfig /a b/relay.conf\nrules /r\nrewrite /w\nlongest-name 1024\n"
+        for words, asked in (((), b"reload\n"), (("--config", "/c"), b"reload\nconfig /c\n"), (named, lines)):
+            with answering(b"reloaded\n") as (port, read):
+                self.asks(Ran(0, b"reloaded\n", b""), "reload", *words, "--admin", port)
+            self.assertEqual(read, [asked])
+        for status, code in ((1, b"1"), (3, b"3"), (4, b"4")):
+            with answering(b"refused %s config: line 3: BadLine\na note\n" % code) as (port, _):
+                self.asks(Ran(status, b"", b"relayd: config: line 3: BadLine\n"), "reload", "--admin", port)
+            with answering(b"refused %s config: line 3: BadLine\na note\n" % code) as (port, _):
+                noted = b"relayd: config: line 3: BadLine\nrelayd: note: a note\n"
+                self.asks(Ran(status, b"", noted), "reload", "--explain", "--admin", port)
+        for answer, fault in ((b"", b"no answer"), (b"reload", b"answer cut off"), (b"unknown command\n", b"unknown command"),
+                              (b"refused 1 config: l", b"answer cut off"), (b"refused 2 x\n", b"no relay"),
+                              (b"reloaded\n\n", b"no relay"), (b"stopping\n", b"no relay"), (WEB_SERVER, b"no relay")):
+            with answering(answer) as (port, _):
+                self.asks(Ran(3, b"", FAULT % fault), "reload", "--admin", port)
+
+    def test_wrong_words_of_a_reload(self):
+        """Its paths begin with a slash, and without a configuration file there are no others."""
+        for words in ((), ("--rules", "/r"), ("--rewrite", "/w"), ("--longest-name", "9"), ("--config", "relay.conf"),
+                      ("--config", "/c", "--rules", "rules"), ("--config", "/c", "--longest-name", "0"), ("--config", "/a\nb")):
+            with self.subTest():
+                ran = run(("reload", *words, *(("--admin", "1") if words else ())))
+                self.assertEqual((ran.status, ran.out), (2, b""), words)
+
     def test_an_output_that_is_full(self):
         with answering(b"destination a\n") as (port, _), open("/dev/full", "wb") as full:
             ran = run(("report", "--admin", str(port)), stdout=full)

@@ -49,7 +49,7 @@ class Completion(harness.Suite):
         for name, offered in self.offers("help", ""):
             self.assertEqual(offered, sorted(commands()), name)
         for name, offered in self.offers("re"):
-            self.assertEqual(offered, ["replay", "report", "restart"], name)
+            self.assertEqual(offered, ["reload", "replay", "report", "restart"], name)
 
     def test_options_of_each_command(self):
         for name, offered in self.offers("-"):

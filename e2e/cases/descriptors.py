@@ -8,7 +8,7 @@ from fixtures.harness import LIMIT, held
 from fixtures.running import Relay, WithRelays
 from fixtures.stores import free_ports
 
-OWN = 20  # the most that a relay with one sender holds for itself
+OWN = 23  # the most that a relay with one sender holds for itself
 CONNECTIONS = 20
 LOOKS = 10
 FEWEST, MOST = 7, 40  # limits of descriptors, of which the least do not do and the greatest do

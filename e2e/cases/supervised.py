@@ -7,14 +7,20 @@ import signal
 import subprocess
 
 from fixtures.harness import LIMIT, Settings
+from fixtures.log import Log
 from fixtures.program import TOP
 from fixtures.running import READY, Relay, WithRelays
 from fixtures.stores import free_ports
 
 SCRIPT = os.path.join(TOP, "packaging", "relayd-supervised")
-HANGUP = b"relayd-supervised: SIGHUP is ignored: relayd reads its files only at the start\n"
+FAULT = b"relayd: config: DESTINATIONS: Missing\n"
 GRACE = 10  # seconds until what is left of a case is killed
 SETTLED = READY + b"settled\n"
+
+
+def said(log, words):
+    """How many lines of a log begin with these words."""
+    return sum(line.startswith(words) for line in list(log.lines))
 
 
 def take_signals():
@@ -93,16 +99,22 @@ class Supervised(WithRelays):
                 self.assertEqual(self.ended(child), (0, SETTLED, b""))
 
     def test_a_hangup(self):
-        """It is ignored, with a line, by the script and by the relay; the relay goes on."""
-        with self.started(self.words()) as child:
+        """The relay reads its files again, and says why it goes on as it was if they have a fault."""
+        words = self.words()
+        with self.started([*words, "--log"]) as child:
             relay = self.ready(child)
-            for _ in range(2):
+            log = Log(child.stderr)
+            for turn in range(1, 3):
                 os.killpg(child.pid, signal.SIGHUP)
-                self.assertEqual(child.stderr.read(len(HANGUP)), HANGUP)
+                self.wait_for(lambda: said(log, b"relay reloaded:") == turn, "it has read them")
                 relay.lines(b"a 1 1\n")
             self.wait_for(lambda: relay.totals()["queued"] == 2, "it goes on")
+            (self.folder / "config").write_text("[relay]\n", encoding="ascii")
+            os.killpg(child.pid, signal.SIGHUP)
+            self.wait_for(lambda: said(log, FAULT) == 1, "it says why not")
+            self.assertEqual(relay.totals()["queued"], 2)
             os.kill(child.pid, signal.SIGTERM)
-            self.assertEqual(self.ended(child), (0, b"settled\n", b""))
+            self.assertEqual(child.wait(LIMIT), 0)
 
     def test_the_status_is_that_of_the_relay(self):
         with self.started(self.words(MAX_QUEUE_SIZE="0")) as child:
@@ -131,7 +143,7 @@ class Supervised(WithRelays):
             self.assertEqual(self.ended(child), (0, b"settled\n", b""))
 
     def test_under_runit(self):
-        """`sv` stops and starts it, and a hangup changes nothing."""
+        """`sv` stops and starts it, and a hangup has it read its files again."""
         if shutil.which("runsv") is None:
             self.skipTest("runit is missing")
         service = self.folder / "service"
@@ -150,15 +162,18 @@ class Supervised(WithRelays):
 
         with self.started(["runsv", os.fspath(service)]) as child:
             self.wait_for(lambda: text() == READY, "it is ready")
+            config = (self.folder / "config").read_bytes()
+            (self.folder / "config").write_bytes(b"[relay]\n")
             sv("hup")
-            self.wait_for(lambda: HANGUP in text(), "the line of the hangup")
+            self.wait_for(lambda: FAULT in text(), "the fault of the files")
+            (self.folder / "config").write_bytes(config)
             sv("-w", "200", "stop")
-            self.assertEqual(text(), READY + HANGUP + b"settled\n")
+            self.assertTrue(text().startswith(READY + FAULT) and text().endswith(b"settled\n"), text())
             sv("-w", "200", "start")
             self.wait_for(lambda: text().endswith(b"settled\n" + READY), "it is ready again")
             os.kill(child.pid, signal.SIGTERM)  # as runsvdir ends a service
             self.assertEqual(child.wait(LIMIT), 0)
-            self.assertEqual(text(), READY + HANGUP + b"settled\n" + SETTLED)
+            self.assertTrue(text().endswith(b"settled\n" + SETTLED), text())
 
 
 def children(process):

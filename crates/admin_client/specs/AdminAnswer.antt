@@ -1,8 +1,9 @@
 -- What a relay answers to a command.
-use Rattle.std.specs.Prelude.{ℕ, ◌≡◌, Bool, true, List, codes}
+use Rattle.std.specs.Prelude.{ℕ, ◌≡◌, Bool, true, List, Some, codes}
 use Rattle.std.specs.Str.{bytes_eq}
 use Rattle.admin_client.specs.declared.admin_command.AdminCommand.{AdminCommand}
-use Rattle.admin_client.specs.declared.admin_command.AdminCommand.TheVariants.{Report, Stop}
+use Rattle.admin_client.specs.declared.admin_command.AdminCommand.TheVariants.{Report, Stop, Reload}
+use Rattle.admin_client.specs.ReloadAnswer.{ReloadEnd, reload_end}
 
 -- the answer to `stop`
 abbrev pub is_stopping : List ℕ → Bool
@@ -12,3 +13,4 @@ is_stopping answer = bytes_eq answer (codes "stopping\n")
 abbrev pub IsAnswerTo : AdminCommand → List ℕ → Type 0
 IsAnswerTo Stop answer = is_stopping answer ≡ true
 IsAnswerTo Report answer = Unit {0}
+IsAnswerTo Reload answer = (end : ReloadEnd) × (reload_end answer ≡ Some end)

@@ -1,2 +1,5 @@
 pub mod AdminCommand
+pub mod ReloadAnswer
+pub mod ReloadText
+pub mod ReloadRequest
 pub mod AdminAnswer

@@ -5,12 +5,13 @@ ghost use Rattle.admin_client.specs.AdminAnswer.{IsAnswerTo, is_stopping};
 
 use crate::admin_command::{AdminCommand, STOPPING, UNKNOWN_COMMAND};
 use crate::admin_fault::AdminFault;
+use crate::reload_answer::{RELOADED, reload_answer_in};
 
 /// What each line of a report begins with.
 const DESTINATION: &[u8] = b"destination ";
 
 /// Refuses all that arrived on a connection, up to its end, if it is not what a relay answers to a command: `stopping` to
-/// `stop`, and lines of destinations, one or more, to `report`.
+/// `stop`, lines of destinations, one or more, to `report`, and `reloaded` or a refusal with its reason to `reload`.
 pub(crate) fn check_answer(command: AdminCommand, answer: &[u8]) -> Result<(), AdminFault>
     ensures ok { OnOk result (IsAnswerTo command answer.now) }
 {
@@ -23,6 +24,7 @@ pub(crate) fn check_answer(command: AdminCommand, answer: &[u8]) -> Result<(), A
     match command {
         AdminCommand::Stop => check_stopping(answer),
         AdminCommand::Report => check_report(answer),
+        AdminCommand::Reload => check_reload(answer),
     }
 }
 
@@ -36,6 +38,18 @@ fn check_stopping(answer: &[u8]) -> Result<(), AdminFault>
         Err(AdminFault::CutOff)
     } else {
         Err(AdminFault::NoRelay)
+    }
+}
+
+/// Refuses what is not the answer to `reload`, and one whose last line has no end.
+fn check_reload(answer: &[u8]) -> Result<(), AdminFault>
+    ensures ok { OnOk result (IsAnswerTo AdminCommand.Reload answer.now) }
+{
+    match reload_answer_in(answer) {
+        Some(_) if answer.ends_with(b"\n") => Ok(()),
+        Some(_) => Err(AdminFault::CutOff),
+        None if RELOADED.starts_with(answer) => Err(AdminFault::CutOff),
+        None => Err(AdminFault::NoRelay),
     }
 }
 

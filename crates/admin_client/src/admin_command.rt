@@ -22,6 +22,8 @@ pub enum AdminCommand {
     Report,
     /// The end of the run.
     Stop,
+    /// A new configuration.
+    Reload,
 }
 
 impl AdminCommand {
@@ -30,6 +32,7 @@ impl AdminCommand {
         match self {
             AdminCommand::Report => b"report\n".as_slice(),
             AdminCommand::Stop => b"stop\n".as_slice(),
+            AdminCommand::Reload => b"reload\n".as_slice(),
         }
     }
 }
@@ -50,6 +53,8 @@ fn command_of(text: &[u8]) -> Option<AdminCommand>
         Some(AdminCommand::Report)
     } else if text == b"stop".as_slice() {
         Some(AdminCommand::Stop)
+    } else if text == b"reload".as_slice() {
+        Some(AdminCommand::Reload)
     } else {
         None
     }

@@ -2,7 +2,7 @@
 
 use crate::admin_command::AdminCommand;
 use crate::admin_fault::AdminFault;
-use crate::connection::{exchange, wait_for_end};
+use crate::connection::{ANSWER_TIMEOUT_MS, RELOAD_TIMEOUT_MS, exchange, wait_for_end};
 use std::alloc::Global;
 use std::io::{Read, Write};
 use std::net::{Ipv4Addr, Net, OpenStream, SocketAddr};
@@ -24,12 +24,42 @@ pub fn ask<R: Net + Clock, W: Write>(
     output: &mut W,
 ) -> Result<(), AdminFault> {
     let mut stream = connect(rt, port)?;
-    let asked = exchange(rt, alloc, &mut stream, command);
+    let asked = exchange(
+        rt,
+        alloc,
+        &mut stream,
+        command,
+        command.line(),
+        ANSWER_TIMEOUT_MS,
+    );
     drop(stream);
     let answer = asked?;
     let written = write_answer(answer.as_slice(), output);
     drop(answer);
     written
+}
+
+/// Sends a request for a reload ([`crate::reload_request`]) to the relay whose admin port this is, and returns its answer,
+/// which `reload_answer_in` reads.
+///
+/// Refuses a port at which nothing listens, and all that is not the whole answer of a relay, within about a minute.
+pub fn ask_reload<R: Net + Clock>(
+    rt: &R,
+    alloc: Global,
+    port: u16,
+    request: &str,
+) -> Result<Vec<u8>, AdminFault> {
+    let mut stream = connect(rt, port)?;
+    let asked = exchange(
+        rt,
+        alloc,
+        &mut stream,
+        AdminCommand::Reload,
+        request.as_bytes(),
+        RELOAD_TIMEOUT_MS,
+    );
+    drop(stream);
+    asked
 }
 
 /// Stops the relay whose admin port this is, copies its answer to the output, and returns when it has ended.
@@ -50,7 +80,8 @@ pub fn stop_and_wait<R: Net + Clock, W: Write>(
         drop(stream);
         return Err(AdminFault::CannotConnect);
     };
-    let asked = exchange(rt, alloc, &mut stream, AdminCommand::Stop);
+    let stop = AdminCommand::Stop;
+    let asked = exchange(rt, alloc, &mut stream, stop, stop.line(), ANSWER_TIMEOUT_MS);
     drop(stream);
     let ended = match asked {
         Ok(answer) => write_and_wait(answer, &mut waiting, output),

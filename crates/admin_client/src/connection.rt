@@ -11,7 +11,10 @@ use std::rt::Clock;
 use std::time::{Duration, Instant};
 
 /// How many milliseconds a relay has to take a command, and then to answer it.
-const ANSWER_TIMEOUT_MS: u64 = 10_000;
+pub(crate) const ANSWER_TIMEOUT_MS: u64 = 10_000;
+
+/// How many milliseconds it has to answer `reload`: it reads the new files, and makes a plan for each receiver.
+pub(crate) const RELOAD_TIMEOUT_MS: u64 = 60_000;
 
 /// The room for a piece of an answer, in bytes.
 const ROOM: usize = 4_096;
@@ -22,18 +25,20 @@ const MOST_READS: usize = 1_024;
 /// The greatest number of reads, each of a second, that wait for the end of a relay: those of a day.
 const MOST_WAITS: usize = 86_400;
 
-/// Sends a command, and returns its answer, up to its end.
+/// Sends the text of a command, and returns its answer, up to its end, which comes within this number of milliseconds.
 pub(crate) fn exchange<R: Clock, S: Read + Write + OpenStream>(
     rt: &R,
     alloc: Global,
     stream: &mut S,
     command: AdminCommand,
+    text: &[u8],
+    millis: u64,
 ) -> Result<Vec<u8>, AdminFault> {
-    if send(stream, command.line()).is_err() {
+    if send(stream, text).is_err() {
         return Err(AdminFault::NoAnswer);
     }
     let mut answer = Vec::new(alloc);
-    match read_answer(rt, stream, &mut answer) {
+    match read_answer(rt, stream, &mut answer, millis) {
         Ok(()) => {}
         Err(fault) => {
             drop(answer);
@@ -49,10 +54,10 @@ pub(crate) fn exchange<R: Clock, S: Read + Write + OpenStream>(
     }
 }
 
-/// Sends a line, and closes this side.
-fn send<S: Write + OpenStream>(stream: &mut S, line: &[u8]) -> io::Result<()> {
+/// Sends a text, and closes this side.
+fn send<S: Write + OpenStream>(stream: &mut S, text: &[u8]) -> io::Result<()> {
     stream.set_write_timeout(Some(Duration::from_millis(ANSWER_TIMEOUT_MS)))?;
-    stream.write_all(line)?;
+    stream.write_all(text)?;
     stream.shutdown(Shutdown::Write)
 }
 
@@ -61,11 +66,12 @@ fn read_answer<R: Clock, S: Read + OpenStream>(
     rt: &R,
     stream: &mut S,
     answer: &mut Vec<u8>,
+    millis: u64,
 ) -> Result<(), AdminFault> {
     let start = Instant::now(rt).ok();
     let mut room = [0u8; ROOM];
     for _ in 0..MOST_READS {
-        let Some(left) = time_left(rt, start) else {
+        let Some(left) = time_left(rt, start, millis) else {
             return Err(AdminFault::NotInTime);
         };
         match read_piece(stream, &mut room, left) {
@@ -80,10 +86,10 @@ fn read_answer<R: Clock, S: Read + OpenStream>(
     Err(AdminFault::NoRelay)
 }
 
-/// How much of its time an answer has left that was asked for then; `None` if it has none. Where the clock cannot be read,
-/// all of it is left.
-fn time_left<R: Clock>(rt: &R, start: Option<Instant>) -> Option<Duration> {
-    let whole = Duration::from_millis(ANSWER_TIMEOUT_MS);
+/// How much of this number of milliseconds an answer has left that was asked for then; `None` if it has none. Where the clock
+/// cannot be read, all of it is left.
+fn time_left<R: Clock>(rt: &R, start: Option<Instant>, millis: u64) -> Option<Duration> {
+    let whole = Duration::from_millis(millis);
     let Some(start) = start else {
         return Some(whole);
     };

@@ -2,10 +2,14 @@
 
 ghost use Rattle.std.specs.Prelude.{◌≤◌, length};
 
-use admin_client::{AdminCommand, LONGEST_COMMAND, STOPPING, UNKNOWN_COMMAND, command_in};
+use admin_client::{
+    AdminCommand, LONGEST_COMMAND, LONGEST_REQUEST, RELOADED, STOPPING, UNKNOWN_COMMAND, command_in,
+};
 use mio::net::TcpStream;
-use mio_loops::exchange::{MOST_TRIES, PATIENCE_MS, Stage, Transfer, read_away};
+use mio_loops::exchange::{MOST_TRIES, PATIENCE_MS, Transfer, read_away};
+use std::alloc::Global;
 use std::io::{Read, Write};
+use std::mem;
 use std::net::Shutdown;
 
 /// How many milliseconds a connection has to send its command, or to close, if others wait for its place.
@@ -13,6 +17,23 @@ pub(crate) const LEAST_PATIENCE_MS: u64 = 100;
 
 /// The room for a command: its text, a byte 13 and a byte 10.
 const COMMAND_ROOM: usize = LONGEST_COMMAND + 2;
+
+/// The state of a connection.
+#[derive(Clone, Copy)]
+enum AdminStage {
+    /// Its command is being read.
+    Command,
+    /// Its command is `reload`, and the lines behind that are being read, up to the end.
+    Request,
+    /// It has asked for a reload, which has not begun.
+    Asking,
+    /// It has asked for a reload, which is under way.
+    Pending,
+    /// It takes the answer.
+    Answer,
+    /// It has the answer. What else it sends is read and dropped, so that closing it does not take the answer from it.
+    End,
+}
 
 /// What a connection does next.
 #[derive(Clone, Copy)]
@@ -29,10 +50,12 @@ pub(crate) enum Progress {
 #[derive(Drop)]
 pub(crate) struct AdminConnection {
     stream: TcpStream,
-    stage: Stage,
+    stage: AdminStage,
     // The bytes of the command so far, and how many they are.
     room: [u8; COMMAND_ROOM],
     count: usize,
+    // All that was sent, if the command is `reload`.
+    request: Vec<u8>,
     // The answer, and how many bytes of it were taken.
     answer: Answer,
     written: usize,
@@ -53,8 +76,12 @@ pub(crate) enum Answer {
     Stopping,
     /// What was sent is no command.
     UnknownCommand,
-    /// The counts of each destination's queue.
-    Report(Vec<u8>),
+    /// The relay runs by the new files.
+    Reloaded,
+    /// There is no memory for a reload.
+    NoMemory,
+    /// The counts of each destination's queue, or what became of a reload.
+    Text(Vec<u8>),
 }
 
 impl Answer {
@@ -63,19 +90,27 @@ impl Answer {
             Answer::Nothing => b"".as_slice(),
             Answer::Stopping => STOPPING,
             Answer::UnknownCommand => UNKNOWN_COMMAND,
-            Answer::Report(lines) => lines.as_slice(),
+            Answer::Reloaded => RELOADED,
+            Answer::NoMemory => b"refused 4 no memory\n".as_slice(),
+            Answer::Text(text) => text.as_slice(),
         }
     }
 }
 
 impl AdminConnection {
     /// A connection of a number, which was taken at these milliseconds.
-    pub(crate) fn new(stream: TcpStream, number: u64, millis: u64) -> AdminConnection {
+    pub(crate) fn new(
+        alloc: Global,
+        stream: TcpStream,
+        number: u64,
+        millis: u64,
+    ) -> AdminConnection {
         AdminConnection {
             stream,
-            stage: Stage::Question,
+            stage: AdminStage::Command,
             room: [0u8; COMMAND_ROOM],
             count: 0,
+            request: Vec::new(alloc),
             answer: Answer::Nothing,
             written: 0,
             since: millis,
@@ -96,7 +131,7 @@ impl AdminConnection {
 
     /// Whether it has sent nothing.
     pub(crate) fn is_silent(&self) -> bool {
-        matches!(self.stage, Stage::Question) && self.count == 0
+        matches!(self.stage, AdminStage::Command) && self.count == 0
     }
 
     /// As long as it is silent, it is not closed before the relay ends.
@@ -108,7 +143,7 @@ impl AdminConnection {
     /// had a while to send the one, or to close.
     pub(crate) fn gives_way(&self, millis: u64) -> bool {
         match self.stage {
-            Stage::Answer => false,
+            AdminStage::Answer | AdminStage::Asking | AdminStage::Pending => false,
             _ => !self.is_left_alone() && self.has_had(LEAST_PATIENCE_MS, millis),
         }
     }
@@ -116,7 +151,7 @@ impl AdminConnection {
     /// Whether nothing more has come of its command, after another look.
     pub(crate) fn has_nothing_new(&mut self) -> bool {
         match self.stage {
-            Stage::Question => {
+            AdminStage::Command => {
                 let before = self.count;
                 matches!(self.read_command(), Progress::Waits) && self.count == before
             }
@@ -132,21 +167,39 @@ impl AdminConnection {
     /// Goes on as far as it can without waiting. A connection whose time is over, at these milliseconds, is to be closed.
     pub(crate) fn go_on(&mut self, millis: u64) -> Progress {
         let progress = match self.stage {
-            Stage::Question => self.read_command(),
-            Stage::Answer => self.write_answer(millis),
-            Stage::End => self.read_away(),
+            AdminStage::Command => self.read_command(),
+            AdminStage::Request => self.read_request(),
+            AdminStage::Asking | AdminStage::Pending => Progress::Waits,
+            AdminStage::Answer => self.write_answer(millis),
+            AdminStage::End => self.read_away(),
         };
-        let is_late = self.has_had(PATIENCE_MS, millis) && !self.is_left_alone();
+        let is_late = self.has_had(PATIENCE_MS, millis) && !self.may_wait();
         if matches!(progress, Progress::Waits) && is_late {
             return Progress::Over;
         }
         progress
     }
 
+    /// Whether it may wait for as long as it does: for the end of the relay, or for that of a reload.
+    fn may_wait(&self) -> bool {
+        self.is_left_alone() || matches!(self.stage, AdminStage::Asking | AdminStage::Pending)
+    }
+
+    /// Whether it has asked for a reload, which has not begun.
+    pub(crate) fn asks_for_reload(&self) -> bool {
+        matches!(self.stage, AdminStage::Asking)
+    }
+
+    /// The reload that it has asked for begins. Returns all that it has sent.
+    pub(crate) fn begin_reload(&mut self, alloc: Global) -> Vec<u8> {
+        self.stage = AdminStage::Pending;
+        mem::replace(&mut self.request, Vec::new(alloc))
+    }
+
     /// Gives it this answer to take.
     pub(crate) fn begin_answer(&mut self, answer: Answer, millis: u64) {
         self.answer = answer;
-        self.stage = Stage::Answer;
+        self.stage = AdminStage::Answer;
         self.since = millis;
     }
 
@@ -155,11 +208,50 @@ impl AdminConnection {
         for _ in 0..MOST_TRIES {
             let count = self.count.min(COMMAND_ROOM);
             if count == COMMAND_ROOM || self.room[..count].contains(&b'\n') {
-                return Progress::Asks(command_in(&self.room[..count]));
+                return self.end_command();
             }
             match Transfer::of(self.stream.read(&mut self.room[count..])) {
                 Transfer::Bytes(more) => self.count = count.saturating_add(more),
-                Transfer::End => return Progress::Asks(command_in(&self.room[..count])),
+                Transfer::End => return self.end_command(),
+                Transfer::Blocked => return Progress::Waits,
+                Transfer::Failed => return Progress::Over,
+            }
+        }
+        Progress::Waits
+    }
+
+    /// The command has come. One for a reload goes on up to the end of what its peer sends.
+    fn end_command(&mut self) -> Progress {
+        let count = self.count.min(COMMAND_ROOM);
+        let command = command_in(&self.room[..count]);
+        let Some(AdminCommand::Reload) = command else {
+            return Progress::Asks(command);
+        };
+        if self.request.extend_from_slice(&self.room[..count]).is_err() {
+            return Progress::Over;
+        }
+        self.stage = AdminStage::Request;
+        self.read_request()
+    }
+
+    /// Reads the lines behind `reload`, up to the end. More than a request may have is no command.
+    fn read_request(&mut self) -> Progress {
+        let mut room = [0u8; 1024];
+        for _ in 0..MOST_TRIES {
+            if self.request.len() > LONGEST_REQUEST {
+                return Progress::Asks(None);
+            }
+            match Transfer::of(self.stream.read(&mut room)) {
+                Transfer::Bytes(count) => {
+                    let count = count.min(room.len());
+                    if self.request.extend_from_slice(&room[..count]).is_err() {
+                        return Progress::Over;
+                    }
+                }
+                Transfer::End => {
+                    self.stage = AdminStage::Asking;
+                    return Progress::Waits;
+                }
                 Transfer::Blocked => return Progress::Waits,
                 Transfer::Failed => return Progress::Over,
             }
@@ -175,7 +267,7 @@ impl AdminConnection {
             let (_, left) = bytes.split_at(written);
             if left.is_empty() {
                 let _ = self.stream.shutdown(Shutdown::Write);
-                self.stage = Stage::End;
+                self.stage = AdminStage::End;
                 self.since = millis;
                 return self.read_away();
             }

@@ -29,6 +29,15 @@ const PAUSE_MS: u64 = 100;
 /// How many milliseconds a turn waits at most while others wait for a place.
 const SHORT_PAUSE_MS: u64 = 10;
 
+/// A reload that a connection has asked for.
+#[derive(Drop)]
+pub struct AskedReload {
+    /// The number of the connection, which waits for the answer.
+    pub connection: u64,
+    /// All that it has sent: `reload`, and a line for each file (`admin_client::reload_files_in`).
+    pub request: Vec<u8>,
+}
+
 /// Answers the commands.
 pub trait Answers<R> {
     /// The answer to `report`. Refuses if out of memory.
@@ -78,7 +87,8 @@ impl AdminListener {
     }
 
     /// One turn: goes on with each connection, takes those that wait, and then waits for at most this number of
-    /// milliseconds. Returns whether one of them asked for the end of the run; it has its answer then.
+    /// milliseconds, unless one has asked for a reload. Returns whether one of them asked for the end of the run; it has its
+    /// answer then.
     ///
     /// From the first such turn on it leaves alone the connections that have sent nothing: they end when the listener is
     /// dropped, so that a peer knows when the relay has ended.
@@ -92,15 +102,78 @@ impl AdminListener {
     ) -> bool {
         let is_stopped = self.go_on_with_all(rt, alloc, answers, millis);
         self.is_stopping = self.is_stopping || is_stopped;
-        let is_more = self.take_connections(rt, millis);
+        let is_more = self.take_connections(rt, alloc, millis);
         if self.is_stopping {
             self.leave_alone();
         }
         let pause = self.pause(pause, is_more);
-        if !is_stopped && self.readiness.wait(pause).is_err() {
+        let goes_on = is_stopped || self.oldest_asking().is_some();
+        if !goes_on && self.readiness.wait(pause).is_err() {
             rt.sleep(Duration::from_millis(PAUSE_MS));
         }
         is_stopped
+    }
+
+    /// The oldest connection that has asked for a reload: it waits until that is answered ([`AdminListener::answer_reload`]).
+    /// Call it after each turn.
+    pub fn next_reload(&mut self, alloc: Global) -> Option<AskedReload> {
+        let place = self.oldest_asking()?;
+        match self.slots.get_mut(place) {
+            Some(Some(connection)) => Some(AskedReload {
+                connection: connection.number(),
+                request: connection.begin_reload(alloc),
+            }),
+            _ => None,
+        }
+    }
+
+    /// The place of the oldest connection that has asked for a reload, which has not begun.
+    fn oldest_asking(&self) -> Option<usize> {
+        let mut oldest = None;
+        let mut least = u64::MAX;
+        for place in 0..self.slots.len() {
+            if let Some(Some(connection)) = self.slots.get(place) {
+                if connection.asks_for_reload() && connection.number() <= least {
+                    least = connection.number();
+                    oldest = Some(place);
+                }
+            }
+        }
+        oldest
+    }
+
+    /// Answers the connection of this number, which has asked for a reload, at these milliseconds.
+    pub fn answer_reload(&mut self, number: u64, text: Vec<u8>, millis: u64) {
+        self.begin_answer(number, Answer::Text(text), millis);
+    }
+
+    /// Answers the connection of this number, which has asked for a reload, that the relay runs by the new files. It takes no
+    /// memory.
+    pub fn answer_reloaded(&mut self, number: u64, millis: u64) {
+        self.begin_answer(number, Answer::Reloaded, millis);
+    }
+
+    /// Answers the connection of this number, which has asked for a reload, that there is no memory for it. It takes none.
+    pub fn answer_no_memory(&mut self, number: u64, millis: u64) {
+        self.begin_answer(number, Answer::NoMemory, millis);
+    }
+
+    /// Answers the connection of this number, which has asked for a reload, that the relay has no such command.
+    pub fn refuse_reload(&mut self, number: u64, millis: u64) {
+        self.begin_answer(number, Answer::UnknownCommand, millis);
+    }
+
+    /// Gives the connection of this number an answer to take, if it is there.
+    fn begin_answer(&mut self, number: u64, answer: Answer, millis: u64) {
+        for slot in self.slots.as_mut_slice().iter_mut() {
+            if let Some(connection) = slot {
+                if connection.number() == number {
+                    connection.begin_answer(answer, millis);
+                    return;
+                }
+            }
+        }
+        drop(answer);
     }
 
     /// For how many milliseconds a turn waits, if it may wait for this number, and others wait for a place.
@@ -147,14 +220,14 @@ impl AdminListener {
     }
 
     /// Takes the connections that wait, as far as there are places. Returns whether others may wait.
-    fn take_connections<R: Net>(&mut self, rt: &R, millis: u64) -> bool {
+    fn take_connections<R: Net>(&mut self, rt: &R, alloc: Global, millis: u64) -> bool {
         if self.spare.is_none() {
             put(&mut self.spare, Poll::new(rt).ok());
         }
         for _ in 0..MOST_TAKEN {
             match self.next_connection(millis) {
                 AcceptOutcome::Stream(stream) => {
-                    if !self.keep(stream, millis) {
+                    if !self.keep(alloc, stream, millis) {
                         return true;
                     }
                 }
@@ -185,7 +258,7 @@ impl AdminListener {
 
     /// Keeps a connection at a free place, or at that of the oldest one that gives way. Returns whether there is one; if
     /// not, it is the next.
-    fn keep(&mut self, stream: TcpStream, millis: u64) -> bool {
+    fn keep(&mut self, alloc: Global, stream: TcpStream, millis: u64) -> bool {
         let free = self.free_place();
         let place = match free {
             Some(place) => Some(place),
@@ -196,13 +269,13 @@ impl AdminListener {
             return false;
         };
         self.close(place);
-        self.watch(stream, place, millis);
+        self.watch(alloc, stream, place, millis);
         true
     }
 
     /// Watches a connection under the number of its place, and keeps it there. One that the system does not watch is
     /// closed.
-    fn watch(&mut self, stream: TcpStream, place: usize, millis: u64) {
+    fn watch(&mut self, alloc: Global, stream: TcpStream, place: usize, millis: u64) {
         let mut stream = stream;
         let watched = self.readiness.add_stream(&mut stream, Token(place));
         if watched.is_err() {
@@ -211,7 +284,10 @@ impl AdminListener {
         let number = self.count;
         self.count = number.saturating_add(1);
         if let Some(slot) = self.slots.get_mut(place) {
-            put(slot, Some(AdminConnection::new(stream, number, millis)));
+            put(
+                slot,
+                Some(AdminConnection::new(alloc, stream, number, millis)),
+            );
         }
     }
 
@@ -383,10 +459,11 @@ fn answer_to<R, A: Answers<R>>(
 ) -> Option<Answer> {
     match command {
         Some(AdminCommand::Report) => match answers.report(rt, alloc) {
-            Ok(report) => Some(Answer::Report(report)),
+            Ok(report) => Some(Answer::Text(report)),
             Err(_) => None,
         },
         Some(AdminCommand::Stop) => Some(Answer::Stopping),
-        None => Some(Answer::UnknownCommand),
+        // A connection that asks for a reload waits for its answer elsewhere.
+        Some(AdminCommand::Reload) | None => Some(Answer::UnknownCommand),
     }
 }

@@ -1,7 +1,7 @@
-//! The words of the commands for a running relay: `report`, `stop` and `restart`.
+//! The words of the commands for a running relay: `report`, `stop`, `restart` and `reload`.
 
 use crate::commands::{EXPLAIN, FILES};
-use crate::long_help::{REPORT_HELP, RESTART_HELP, STOP_HELP};
+use crate::long_help::{RELOAD_HELP, REPORT_HELP, RESTART_HELP, STOP_HELP};
 use crate::words::{CommandWords, Form, Word};
 use clap::{ArgMatches, Error};
 use relay_base::whole_number_up_to;
@@ -43,6 +43,38 @@ pub(crate) static RESTART: CommandWords = CommandWords {
     about: "Checks the files of a running relay, and stops it if they have no fault",
     long_help: RESTART_HELP,
     files: FILES,
+    words: &[EXPLAIN, ADMIN],
+    choice: None,
+};
+
+/// The words that `relayd reload` takes. Without a configuration file the relay reads those again that it began with.
+pub(crate) static RELOAD: CommandWords = CommandWords {
+    name: "reload",
+    full_name: "relayd reload",
+    about: "Has a running relay take a new configuration, without losing a datapoint",
+    long_help: RELOAD_HELP,
+    files: &[
+        Word {
+            name: "config",
+            form: Form::Value("FILE"),
+            help: "The new configuration file; by default the files that the relay began with",
+        },
+        Word {
+            name: "rules",
+            form: Form::ValueWith("FILE", "config"),
+            help: "With --config: the relay rules",
+        },
+        Word {
+            name: "rewrite",
+            form: Form::ValueWith("FILE", "config"),
+            help: "With --config: the rewrite rules",
+        },
+        Word {
+            name: "longest-name",
+            form: Form::ValueWith("N", "config"),
+            help: "With --config: drops datapoints whose names have more than N characters, 1 to 4000",
+        },
+    ],
     words: &[EXPLAIN, ADMIN],
     choice: None,
 };

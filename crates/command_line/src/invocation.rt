@@ -1,10 +1,11 @@
 //! What the words of a command line ask for.
 
-use crate::client_words::{REPORT, RESTART, STOP, client_port};
+use crate::client_words::{RELOAD, REPORT, RESTART, STOP, client_port};
 use crate::commands::{CHECK, REPLAY, ROUTE, RUN, relayd_command};
 use crate::explain::Explain;
 use crate::options::{explain_option, moment_option, path_option, path_options, text_option};
 use crate::paths::Paths;
+use crate::reload_paths::reload_paths;
 use crate::run_options::{RunOptions, run_options};
 use crate::tips::with_tip;
 use clap::error::ErrorKind;
@@ -77,6 +78,12 @@ pub enum Invocation {
         admin: u16,
         explain: Explain,
     },
+    /// `reload`: a new configuration for the relay with this admin port, of these files, or of those that it began with.
+    Reload {
+        paths: Option<Paths>,
+        admin: u16,
+        explain: Explain,
+    },
 }
 
 /// What these words ask for.
@@ -102,6 +109,7 @@ fn invocation_of(alloc: Global, matches: &ArgMatches<'_>) -> Result<Invocation, 
         Some(("report", options)) => report_invocation(alloc, options),
         Some(("stop", options)) => stop_invocation(alloc, options),
         Some(("restart", options)) => restart_invocation(alloc, options),
+        Some(("reload", options)) => reload_invocation(alloc, options),
         _ => no_command(alloc),
     }
 }
@@ -158,6 +166,14 @@ fn restart_invocation(alloc: Global, options: &ArgMatches<'_>) -> Result<Invocat
     Ok(Invocation::Restart {
         admin: client_port(alloc, options, &RESTART)?,
         paths: path_options(alloc, options, &RESTART)?,
+        explain: explain_option(options, false),
+    })
+}
+
+fn reload_invocation(alloc: Global, options: &ArgMatches<'_>) -> Result<Invocation, Error> {
+    Ok(Invocation::Reload {
+        admin: client_port(alloc, options, &RELOAD)?,
+        paths: reload_paths(alloc, options)?,
         explain: explain_option(options, false),
     })
 }

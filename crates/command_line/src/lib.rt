@@ -18,6 +18,7 @@ mod invocation;
 mod long_help;
 mod options;
 mod paths;
+mod reload_paths;
 mod run_options;
 mod senders;
 mod tips;

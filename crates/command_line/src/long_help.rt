@@ -86,6 +86,18 @@ its ports are free.
 
 Exit status: 0 the relay stops or, with --wait, has ended; 3 no relay listens on the port.";
 
+/// Of `relayd reload`.
+pub const RELOAD_HELP: &str = "Examples:
+    relayd reload --admin 2015
+    relayd reload --config /etc/relayd/new.conf --rules /etc/relayd/new-rules.conf --admin 2015
+
+The relay reads its files again, or these, and goes on by them: it keeps its ports, its connections
+and what is queued. It prints `reloaded` when that is done. With a fault, or if a port changed, the
+relay goes on as it was. The paths of files begin with `/`.
+
+Exit status: 0 the relay goes on by the files; 1 they have a fault, or need a restart; 3 a file
+cannot be read, or no relay listens on the port; 4 out of memory.";
+
 /// Of `relayd restart`.
 pub const RESTART_HELP: &str = "Example:
     relayd restart --config relay.conf --rules relay-rules.conf --longest-name 1024 --admin 2015

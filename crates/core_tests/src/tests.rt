@@ -8,6 +8,7 @@ mod flow_parts;
 mod flows;
 mod full_logs;
 mod gates;
+mod handed_over;
 mod histories;
 mod holds;
 mod hostile_pickles;

@@ -145,6 +145,13 @@ impl Writer {
         text_length(&self.hand.points()[self.place.index..]) - self.place.offset
     }
 
+    /// How many datapoints of the hand were not wholly taken.
+    pub fn unsent(&self) -> usize
+        ensures few { result ≤ length self.now.writer.hand }
+    {
+        self.hand.len() - self.place.index
+    }
+
     /// Whether there is a connection and the hand is empty, as [`Writer::fill`] wants it.
     pub fn wants_batch(&self) -> bool
         ensures { result ≡ wants_batch self.now.writer }

@@ -8,6 +8,6 @@ mod recorder;
 mod run_shape;
 mod thread_logs;
 
-pub use recorder::{FinishedRun, NoRecorder, Recorder};
+pub use recorder::{FinishedRun, NoRecorder, Recorder, RunPlace};
 pub use run_shape::RunShape;
 pub use thread_logs::{FedLog, ThreadLogs};

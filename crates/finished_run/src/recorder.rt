@@ -22,10 +22,22 @@ pub struct FinishedRun<'x> {
     pub logs: &'x ThreadLogs,
 }
 
-/// Who takes what a run leaves, to make a record of it.
+/// Which of the runs of its process a run was.
+#[derive(Clone, Copy)]
+pub enum RunPlace {
+    /// The run of this number, from 1 on, which another one followed.
+    Followed {
+        /// The number.
+        number: u64,
+    },
+    /// The last one.
+    Last,
+}
+
+/// Who takes what runs leave, to make a record of each.
 pub trait Recorder {
     /// Takes what a run left that has settled, or tried to.
-    fn take(self, alloc: Global, run: &FinishedRun<'_>)
+    fn take(&mut self, alloc: Global, place: RunPlace, run: &FinishedRun<'_>)
         requires dests { length run.now.configuration.now.settings.routing.destinations
             ≡ run.now.shape.dests }
         requires size { (1 ≤ run.now.shape.size) × (run.now.shape.size ≤ LARGEST_QUEUE_SIZE) }
@@ -37,5 +49,5 @@ pub trait Recorder {
 pub struct NoRecorder;
 
 impl Recorder for NoRecorder {
-    fn take(self, _alloc: Global, _run: &FinishedRun<'_>) {}
+    fn take(&mut self, _alloc: Global, _place: RunPlace, _run: &FinishedRun<'_>) {}
 }

@@ -2,8 +2,8 @@
 
 use crate::marks::{print_answer, print_text};
 use finished_run::NoRecorder;
-use relay_files::{RelayFault, Source, Sources, Status};
-use relay_run::{RelayRuntime, RunOptions};
+use relay_files::{RelayFault, RunConfiguration, Source, Sources, Status};
+use relay_run::{RefusedReload, RelayRuntime, ReloadSource, RunOptions};
 use std::alloc::Global;
 use std::io::{Read, Sink, Write};
 use std::net::{
@@ -59,6 +59,16 @@ impl<'c> Source for ConfigurationText<'c> {
     }
 }
 
+/// Who reads no files for a reload.
+#[derive(Drop)]
+struct NoFiles;
+
+impl ReloadSource for NoFiles {
+    fn read(&self, alloc: Global, _request: &[u8]) -> Result<RunConfiguration, RefusedReload> {
+        Err(RefusedReload::no_memory(alloc))
+    }
+}
+
 /// Runs a relay, which a client asks and stops. Prints the answers, how the run ended, and what it wrote.
 fn run_relay<R: RelayRuntime>(rt: &HostRuntime, threads: &R, alloc: Global) -> Option<()> {
     let port = free_port(threads)?;
@@ -96,6 +106,7 @@ fn run_until_stopped<R: RelayRuntime>(
         None::<Sink>,
         None::<NoRecorder>,
         None,
+        &NoFiles,
     )
 }
 

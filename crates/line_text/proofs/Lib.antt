@@ -10,5 +10,6 @@ pub mod PlaceLemmas
 mod PlainLemmas
 pub mod PrintLemmas
 pub mod ReadBackLemmas
+pub mod ReadOnLemmas
 pub mod SplitLemmas
 pub mod ValueLemmas

@@ -1,5 +1,5 @@
 -- What holds for the definitions.
-use Rattle.std.specs.Prelude.{◌≡◌, ℕ, ◌*◌, ◌^◌, ◌≤◌, ℤ, pos, nat_abs, ◌*ℤ◌, ◌≤ℤ◌, true, List, [], ◌∷◌, ◌++◌, length, filter, Some, Ok, ◌↔◌, ◌==◌}
+use Rattle.std.specs.Prelude.{◌≡◌, ℕ, ◌+◌, ◌*◌, ◌^◌, ◌≤◌, ℤ, pos, nat_abs, ◌*ℤ◌, ◌≤ℤ◌, true, List, [], ◌∷◌, ◌++◌, length, filter, Some, Ok, ◌↔◌, ◌==◌}
 use Rattle.std.specs.Fmt.{signed_decimal}
 use Rattle.relay_base.specs.Ascii.{newline}
 use Rattle.line_text.specs.Datapoint.{Datapoint}
@@ -8,7 +8,7 @@ use Rattle.line_text.specs.Number.{Decimal}
 use Rattle.line_text.specs.Value.{IsValueOf, value_of, units_of_one, most_units, places_left, places_right, scale, distance}
 use Rattle.line_text.specs.Time.{IsWholePart, whole_part, last_time}
 use Rattle.line_text.specs.Line.{reading}
-use Rattle.line_text.specs.Connection.{Arrival, accepted_points, is_closed}
+use Rattle.line_text.specs.Connection.{Arrival, arrivals, cut, accepted_points, bad_lines, is_open, is_closed}
 use Rattle.line_text.specs.Datagram as datagrams
 use Rattle.line_text.specs.Datagram.{is_line_break}
 use Rattle.line_text.specs.Reader.{GivesNoMore}
@@ -60,6 +60,19 @@ NothingAtFirstLaw = accepted_points [] ≡ []
 -- a reader reads nothing more of a closed connection, whatever follows on it
 abbrev pub StaysClosedLaw : Type 0
 StaysClosedLaw = (c : List Arrival) → is_closed c ≡ true → GivesNoMore c
+
+-- of a connection that is not closed, what a reader gives that goes on behind what the first one kept of it, whenever that is
+-- fed to it: together they give what one reader gives of the whole
+pub record ReadsOn (c more : List Arrival) (moment : ℕ) : Type 0 where
+  pub accepted_points : accepted_points (c ++ more)
+      ≡ accepted_points c ++ accepted_points (arrivals (cut c).unended moment ++ more)
+  pub bad : bad_lines (c ++ more)
+      ≡ bad_lines c + bad_lines (arrivals (cut c).unended moment ++ more)
+  pub stays_open : is_open (c ++ more) ≡ is_open (arrivals (cut c).unended moment ++ more)
+
+abbrev pub ReadsOnLaw : Type 0
+ReadsOnLaw =
+    (c more : List Arrival) (moment : ℕ) → is_open c ≡ true → ReadsOn c more moment
 
 -- the text before a line break is read as a datagram by itself, and so is the text after it
 abbrev pub DatagramsJoinLaw : Type 0

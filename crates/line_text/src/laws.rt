@@ -1,6 +1,6 @@
 //! Laws of the definitions, for every connection and every datapoint. Each is the contract of a function
 //! that does nothing.
-ghost use Rattle.line_text.specs.Laws.{ValueLaw, ValueOrderLaw, ValueExactLaw, WholePartLaw, AcceptedGrowsLaw, NothingAtFirstLaw, StaysClosedLaw, DatagramsJoinLaw, ReadsBackLaw, WholePrintedLaw, OneLineLaw};
+ghost use Rattle.line_text.specs.Laws.{ValueLaw, ValueOrderLaw, ValueExactLaw, WholePartLaw, AcceptedGrowsLaw, NothingAtFirstLaw, StaysClosedLaw, ReadsOnLaw, DatagramsJoinLaw, ReadsBackLaw, WholePrintedLaw, OneLineLaw};
 
 /// The value of a number is the number of units nearest to it, the even one of two that are as near, and
 /// a number has none if that is out of range. So a value is at most half a unit away from its number.
@@ -34,6 +34,12 @@ pub fn orderly()
     ensures nothing { NothingAtFirstLaw }
     ensures grows { AcceptedGrowsLaw }
     ensures closed { StaysClosedLaw }
+{}
+
+/// A connection may go on at another reader: if that one is fed first what the first one kept, at any moment, both together
+/// give the datapoints of the whole connection, each once and in order.
+pub fn reads_on()
+    ensures { ReadsOnLaw }
 {}
 
 /// The datapoints of a datagram are a function of it alone, line by line: the text before a line break

@@ -139,6 +139,14 @@ impl LineReader {
         Ok(end_of(self.closed))
     }
 
+    /// What is kept of a connection that is not closed: the bytes behind its last newline. Another reader that is fed these
+    /// first reads on where this one is.
+    pub fn rest(&self) -> &[u8]
+        ensures { result.now ≡ self.now.rest }
+    {
+        self.rest.as_slice()
+    }
+
     /// Whether nothing more of the connection is read.
     pub fn is_closed(&self) -> bool
         ensures { result ≡ self.now.closed }

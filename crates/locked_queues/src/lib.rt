@@ -1,11 +1,13 @@
 //! The queues of all destinations, each under a lock of its own, for the threads of a relay.
 //!
 //! [`Queues::new`] makes a door for each receiver and an outlet for each sender. Each records what it does, and bears
-//! shares of the totals behind the locks. After the run [`Queues::settle`] compares records, totals and histories.
+//! shares of the totals behind the locks. After the run [`Queues::settle`] compares records, totals and histories, and
+//! [`Queues::end`] leaves what was queued.
 //! `specs/LockFact.antt` says what holds of a queue whenever its lock is free, `specs/Shares.antt` what the shares are.
 #![tactic(auto)]
 
 mod copies;
+mod ended_set;
 mod gate;
 mod locked;
 mod locked_door;
@@ -17,6 +19,7 @@ mod settle;
 mod settled;
 mod shares;
 
+pub use ended_set::{EndRoom, EndedSet};
 pub use gate::{Gate, GatePoint, OpenGate};
 pub use locked_door::{HeldLock, LockedDoor};
 pub use outlet::Outlet;

@@ -106,7 +106,7 @@ fn check_whole(
 }
 
 /// Compares copies of the counts and histories of a set with this number of readers with the records.
-fn compare(
+pub(crate) fn compare(
     alloc: Global,
     copies: Copies,
     readers: usize,

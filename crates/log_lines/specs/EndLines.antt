@@ -16,6 +16,10 @@ dest_end_words (end.Spooled datapoints) =
     codes "stopped, " ++ decimal datapoints ++ codes " datapoints spooled"
 dest_end_words (end.Unsent datapoints) =
     codes "stopped, " ++ decimal datapoints ++ codes " datapoints not sent"
+dest_end_words (end.GoneSpooled datapoints) =
+    codes "gone, " ++ decimal datapoints ++ codes " datapoints spooled"
+dest_end_words (end.GoneUnsent datapoints) =
+    codes "gone, " ++ decimal datapoints ++ codes " datapoints not sent"
 
 -- the line on the end of what a destination is sent
 abbrev pub dest_end_line : Destination → DestEnd → List ℕ

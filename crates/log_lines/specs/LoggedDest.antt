@@ -75,3 +75,14 @@ dest_logged_after logged now (Some (event.CannotConnect why)) = with_connection 
 dest_logged_after logged now (Some event.BeginsToDrop) = with_drops logged now true logged.dropped
 dest_logged_after logged now (Some (event.DropsNoMore dropped)) = with_drops logged now false logged.before
 dest_logged_after logged now None = with_drops logged now logged.is_dropping logged.before
+
+-- what the log has reported once it reported all that led to a state
+abbrev pub logged_up_to : DestStatus → LoggedDest
+logged_up_to now = record {
+  is_up = now.is_up;
+  losses = now.losses;
+  failure = now.failure;
+  is_dropping = false;
+  dropped = now.dropped;
+  before = now.dropped;
+}

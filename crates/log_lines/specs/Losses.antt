@@ -1,5 +1,6 @@
 -- When the log reports what a receiver lost or closed.
-use Rattle.std.specs.Prelude.{ℕ, ◌==◌, ◌&&◌, not, Bool, true, false, Some}
+use Rattle.std.specs.Prelude.{ℕ, ◌+◌, max, ◌==◌, ◌&&◌, not, Bool, true, false, Some}
+use Rattle.reader_counts.specs.Counts.{counted}
 use Rattle.log_lines.specs.LoggedCounts.{is_minute_over}
 use Rattle.log_lines.specs.declared.losses.LossCounts.{LossCounts}
 use Rattle.log_lines.specs.declared.losses.LoggedLosses.{LoggedLosses}
@@ -37,3 +38,14 @@ is_losses_line_due logged now millis =
 abbrev pub losses_logged_after : LoggedLosses → LossCounts → ℕ → Bool → LoggedLosses
 losses_logged_after logged now millis true = record { counts = now; at = Some millis }
 losses_logged_after logged now millis false = logged
+
+-- the losses of a run behind those of runs that have ended; the system counts its own since the socket was made
+abbrev pub losses_behind : (earlier now : LossCounts) → LossCounts
+losses_behind earlier now = record {
+  overlong = counted (earlier.overlong + now.overlong);
+  unfinished = counted (earlier.unfinished + now.unfinished);
+  idle = counted (earlier.idle + now.idle);
+  memory_short = counted (earlier.memory_short + now.memory_short);
+  broken = counted (earlier.broken + now.broken);
+  system_drops = max earlier.system_drops now.system_drops;
+}

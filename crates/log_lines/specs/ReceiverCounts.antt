@@ -1,6 +1,6 @@
 -- What a receiver has counted, and how it is noted.
-use Rattle.std.specs.Prelude.{ℕ, List, [], ◌∷◌}
-use Rattle.reader_counts.specs.Counts.{no_totals}
+use Rattle.std.specs.Prelude.{ℕ, ◌+◌, List, [], ◌∷◌}
+use Rattle.reader_counts.specs.Counts.{no_totals, totals_after, counted}
 use Rattle.log_lines.specs.declared.receiver_counts.ReceiverCounts.{ReceiverCounts}
 
 abbrev pub no_counts : ReceiverCounts
@@ -11,3 +11,11 @@ abbrev pub numbers_of : ReceiverCounts → List ℕ
 numbers_of c =
     c.readers.datapoints ∷ c.readers.faults.bad_lines ∷ c.readers.faults.bad_pickles
     ∷ c.readers.faults.bad_rows ∷ c.readers.faults.bad_names ∷ c.connections ∷ c.refused ∷ []
+
+-- the counts of a run behind those of runs that have ended
+abbrev pub counts_behind : (earlier now : ReceiverCounts) → ReceiverCounts
+counts_behind earlier now = record {
+  readers = totals_after earlier.readers now.readers;
+  connections = now.connections;
+  refused = counted (earlier.refused + now.refused);
+}

@@ -93,6 +93,13 @@ impl DestNotes {
         let _before = self.made.fetch_add(1, Ordering::SeqCst);
     }
 
+    /// A connection goes on here. It counts as made at these milliseconds of the sender's clock, unless one is up.
+    pub fn note_kept(&self, millis: u64) {
+        if !self.is_up() {
+            self.note_connected(millis);
+        }
+    }
+
     /// There is no connection, at these milliseconds of the sender's clock. Does nothing if that was noted since
     /// the last connection.
     pub fn note_down(&self, millis: u64) {

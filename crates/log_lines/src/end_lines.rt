@@ -25,6 +25,10 @@ pub enum DestEnd {
     Spooled { datapoints: u64 },
     /// This many datapoints were not sent to it.
     Unsent { datapoints: u64 },
+    /// It is gone, and its file keeps this many datapoints.
+    GoneSpooled { datapoints: u64 },
+    /// It is gone, and this many datapoints were not sent to it.
+    GoneUnsent { datapoints: u64 },
 }
 
 /// What the relay ends with.
@@ -59,6 +63,14 @@ fn push_dest_end_words(text: &mut String, end: DestEnd) -> Result<(), AllocError
         DestEnd::CannotWrite => text.push_str("spool: cannot write"),
         DestEnd::Spooled { datapoints } => write!(text, "stopped, {datapoints} datapoints spooled"),
         DestEnd::Unsent { datapoints } => write!(text, "stopped, {datapoints} datapoints not sent"),
+        DestEnd::GoneSpooled { datapoints } => write!(
+            text,
+            "gone, {datapoints} datapoints spooled"
+        ),
+        DestEnd::GoneUnsent { datapoints } => write!(
+            text,
+            "gone, {datapoints} datapoints not sent"
+        ),
     }
 }
 

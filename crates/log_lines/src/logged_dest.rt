@@ -1,7 +1,7 @@
 //! What the log reports of a destination.
 
 ghost use Rattle.std.specs.Prelude.{◌≡◌};
-ghost use Rattle.log_lines.specs.LoggedDest.{IsConnectionEvent, IsDropEvent, IsDestEvent, dest_logged_after, with_connection, with_drops};
+ghost use Rattle.log_lines.specs.LoggedDest.{IsConnectionEvent, IsDropEvent, IsDestEvent, dest_logged_after, logged_up_to, with_connection, with_drops};
 
 use crate::dest_notes::DestStatus;
 use crate::why::Why;
@@ -46,6 +46,20 @@ impl LoggedDest {
             is_dropping: false,
             dropped: 0,
             before: 0,
+        }
+    }
+
+    /// All was reported that led to this state.
+    pub fn after(now: &DestStatus) -> LoggedDest
+        ensures { result ≡ logged_up_to now.now }
+    {
+        LoggedDest {
+            is_up: now.is_up,
+            losses: now.losses,
+            failure: now.failure,
+            is_dropping: false,
+            dropped: now.dropped,
+            before: now.dropped,
         }
     }
 

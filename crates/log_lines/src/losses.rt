@@ -1,7 +1,7 @@
 //! What a receiver lost or closed, by its reason.
 
 ghost use Rattle.std.specs.Prelude.{◌≡◌};
-ghost use Rattle.log_lines.specs.Losses.{count_of, has_lost, has_same_losses, is_losses_line_due, losses_logged_after};
+ghost use Rattle.log_lines.specs.Losses.{count_of, losses_behind, has_lost, has_same_losses, is_losses_line_due, losses_logged_after};
 
 use crate::logged_counts::is_minute_over;
 use std::sync::atomic::{AtomicU64, Ordering};
@@ -74,6 +74,21 @@ impl LossCounts {
             memory_short: 0,
             broken: 0,
             system_drops: 0,
+        }
+    }
+
+    /// These counts, behind those of runs that have ended. The system counts what it drops at a socket since the socket was
+    /// made, and the socket is that of all runs.
+    pub fn behind(&self, earlier: &LossCounts) -> LossCounts
+        ensures { result ≡ losses_behind earlier.now self.now }
+    {
+        LossCounts {
+            overlong: earlier.overlong.saturating_add(self.overlong),
+            unfinished: earlier.unfinished.saturating_add(self.unfinished),
+            idle: earlier.idle.saturating_add(self.idle),
+            memory_short: earlier.memory_short.saturating_add(self.memory_short),
+            broken: earlier.broken.saturating_add(self.broken),
+            system_drops: earlier.system_drops.max(self.system_drops),
         }
     }
 

@@ -1,7 +1,7 @@
 //! What a receiver has counted.
 
 ghost use Rattle.std.specs.Prelude.{◌≡◌};
-ghost use Rattle.log_lines.specs.ReceiverCounts.{no_counts, numbers_of};
+ghost use Rattle.log_lines.specs.ReceiverCounts.{no_counts, numbers_of, counts_behind};
 ghost use Rattle.log_lines.specs.declared.receiver_counts.ReceiverCounts.{ReceiverCounts};
 
 use reader_counts::{ReaderCounts, ReaderTotals};
@@ -30,6 +30,17 @@ impl ReceiverCounts {
             readers: ReaderTotals::zero(),
             connections: 0,
             refused: 0,
+        }
+    }
+
+    /// These counts, behind those of runs that have ended. The connections are those that are open now.
+    pub fn behind(&self, earlier: &ReceiverCounts) -> ReceiverCounts
+        ensures { result ≡ counts_behind earlier.now self.now }
+    {
+        ReceiverCounts {
+            readers: earlier.readers.with(self.readers),
+            connections: self.connections,
+            refused: earlier.refused.saturating_add(self.refused),
         }
     }
 

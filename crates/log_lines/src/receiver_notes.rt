@@ -21,6 +21,10 @@ pub struct ReceiverNotes {
     example: ExamplePlace,
     // How many connections it has taken.
     taken: AtomicU64,
+    // What the receivers of runs that have ended had counted, lost and taken.
+    earlier_counts: NotedCounts,
+    earlier_losses: LossNotes,
+    earlier_taken: AtomicU64,
 }
 
 /// The state of a receiver at one look.
@@ -46,7 +50,21 @@ impl ReceiverNotes {
             losses: LossNotes::new(),
             example: ExamplePlace::new(),
             taken: AtomicU64::new(0),
+            earlier_counts: NotedCounts::new(),
+            earlier_losses: LossNotes::new(),
+            earlier_taken: AtomicU64::new(0),
         }
+    }
+
+    /// A run has ended, and the next one's receiver notes here: it receives, and what it counts comes behind what was counted.
+    /// No receiver notes anything meanwhile.
+    pub fn begin_run(&self) {
+        self.earlier_counts.store(self.counts.load());
+        self.earlier_losses.store(self.losses.counts());
+        self.earlier_taken
+            .store(self.taken.load(Ordering::SeqCst), Ordering::SeqCst);
+        self.is_paused.store(false, Ordering::SeqCst);
+        self.has_failed.store(false, Ordering::SeqCst);
     }
 
     /// It receives, or does so again.
@@ -66,9 +84,10 @@ impl ReceiverNotes {
         self.has_failed.store(true, Ordering::SeqCst);
     }
 
-    /// Notes what it has counted.
+    /// Notes what it has counted in this run.
     pub fn note_counts(&self, counts: ReceiverCounts) {
-        self.counts.store(counts);
+        self.counts
+            .store(counts.behind(&self.earlier_counts.load()));
     }
 
     /// The counts that it noted last; each by itself, since it may note others at the same time.
@@ -76,10 +95,13 @@ impl ReceiverNotes {
         self.counts.load()
     }
 
-    /// Notes what it has lost or closed, and how many connections it has taken, since the start.
+    /// Notes what it has lost or closed, and how many connections it has taken, in this run.
     pub fn note_losses(&self, losses: LossCounts, taken: u64) {
-        self.losses.store(losses);
-        self.taken.store(taken, Ordering::SeqCst);
+        self.losses
+            .store(losses.behind(&self.earlier_losses.counts()));
+        let earlier = self.earlier_taken.load(Ordering::SeqCst);
+        self.taken
+            .store(earlier.saturating_add(taken), Ordering::SeqCst);
     }
 
     /// What it had lost or closed, when it last noted that; each count by itself.

@@ -1,5 +1,5 @@
 //! One destination of a write loop.
-ghost use Rattle.std.specs.Prelude.{◌≡◌, ℕ, ◌≤◌, Bool, true, false, Option, None, Some, ◌||◌, IfOk, OnOk, IfErr};
+ghost use Rattle.std.specs.Prelude.{◌≡◌, ℕ, ◌≤◌, Bool, true, false, Option, None, Some, ◌||◌, IfOk, OnOk, IfErr, MatchOption};
 ghost use Rattle.dest_writer.specs.Counting.{stream_of, counts_of};
 ghost use Rattle.dest_writer.specs.Writer.{fresh_writer, writer_after_up};
 ghost use Rattle.dest_writer.specs.Log.{UpEntry};
@@ -8,6 +8,7 @@ ghost use Rattle.mio_loops.specs.WriteServe.{is_failed};
 ghost use Rattle.mio_loops.specs.WriteAnswers.{is_blocked, is_again};
 ghost use Rattle.queue_records.specs.Takes.{IsHandedBy};
 
+use crate::left_writer::LeftWriter;
 use crate::write_log::{WriteLog, WriterEntry};
 use crate::write_serve::{is_failed, serve_connection};
 use dest_queue::Hand;
@@ -120,11 +121,32 @@ impl<W: Write + Drop> Outgoing<W> {
         &self.log
     }
 
-    /// The log of the writer, which is dropped.
-    pub(crate) fn into_log(self) -> WriteLog
-        ensures { result ≡ self.log }
+    /// The log of the writer, and what is left of the destination.
+    pub(crate) fn into_parts(self) -> (WriteLog, LeftWriter<W>)
+        ensures log { result.0 ≡ self.log }
+        ensures writer { result.1.writer.writer ≡ self.writer }
+        ensures sink { MatchOption result.1.sink (self.sink ≡ None)
+            (λ sink. (held : Counting W) × (self.sink ≡ Some held) × (stream_of held ≡ sink)) }
     {
-        self.log
+        let Outgoing {
+            limit,
+            writer,
+            sink,
+            log,
+            last: _,
+            hand,
+        } = self;
+        let sink = match sink {
+            Some(sink) => Some(sink.into_stream()),
+            None => None,
+        };
+        let left = LeftWriter {
+            limit,
+            writer,
+            lent: hand,
+            sink,
+        };
+        (log, left)
     }
 
     /// Whether the last drive ended after as many writes as one may make, with bytes left.

@@ -10,6 +10,7 @@ ghost use Rattle.reader_core.specs.Configuration.{Dispatch};
 ghost use Rattle.reader_core.specs.Entries.{InputEntry};
 ghost use Rattle.reader_core.specs.Input.{fresh_input};
 ghost use Rattle.reader_core.specs.Reader.{ReaderModel, Represents};
+ghost use Rattle.reader_core.specs.Scan.{rest_of};
 ghost use Rattle.mio_loops.specs.LoopState.{is_held, is_listed, has_listed, is_full, NoneForgotten};
 ghost use Rattle.mio_loops.specs.Reading.{entries_by, offers_by};
 ghost use Rattle.mio_loops.specs.ReadTurn.{TokenProgress, TurnProgress, is_due};
@@ -240,6 +241,38 @@ impl<S: Read + Drop> ReadLoop<S> {
             report.count(self.serve_if_due(Token(token), marks[token], plan, door, moment));
         }
         report
+    }
+
+    /// The bytes of the connection of a token behind its last whole line or frame: what its next reader is to be fed first.
+    pub fn rest(&self, token: Token) -> &[u8]
+        requires within { token.0 < MOST_CONNECTIONS }
+        ensures { (reader : ReaderModel) → slice_get self.now.readers token.0 ≡ Some reader
+            → result.now ≡ rest_of reader.scan }
+    {
+        self.readers[token.0].rest()
+    }
+
+    /// Whether offers of the reader of a token wait, since the door refused one.
+    pub fn has_waiting(&self, token: Token) -> bool
+        requires within { token.0 < MOST_CONNECTIONS }
+    {
+        self.readers[token.0].waiting() > 0
+    }
+
+    /// Takes out the connection of a token, if it is held. Its reader, which stays as it is, has not ended: the connection goes
+    /// on elsewhere, behind [`ReadLoop::rest`]. The log does not change.
+    pub fn take_out(&mut self, token: Token) -> Option<S>
+        ensures stream { MatchOption result (get self.old.sources token.0 ≡ None)
+            (λ stream. (held : Counting S) × (get self.old.sources token.0 ≡ Some held)
+            × (stream_of held ≡ stream)) }
+        ensures left { get self.new.sources token.0 ≡ None }
+        ensures others { (other : ℕ) → other ≢ token.0
+            → get self.new.sources other ≡ get self.old.sources other }
+        ensures rest { (self.new.first ≡ self.old.first) × (self.new.readers ≡ self.old.readers)
+            × (self.new.log ≡ self.old.log) }
+    {
+        let source = self.sources.try_remove(token.0)?;
+        Some(source.into_stream())
     }
 
     /// How many tokens there are.

@@ -5,7 +5,7 @@ use line_text::{LAST_TIME, Moment};
 use std::rt::Clock;
 use std::time::Instant;
 
-/// Reads the clocks of the system. Its milliseconds count from the call of [`SystemTimes::new`].
+/// Reads the clocks of the system. Its milliseconds count from the call of [`SystemTimes::new`], or from an instant before.
 ///
 /// If a clock cannot be read, the moment is 0 and no millisecond has passed.
 #[derive(Drop)]
@@ -21,6 +21,11 @@ impl<'r, R: Clock> SystemTimes<'r, R> {
             rt,
             start: Instant::now(rt).ok(),
         }
+    }
+
+    /// The clocks, whose milliseconds count from an instant; if that is not known, none passes.
+    pub fn since(rt: &'r R, start: Option<Instant>) -> SystemTimes<'r, R> {
+        SystemTimes { rt, start }
     }
 }
 

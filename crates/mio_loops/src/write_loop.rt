@@ -6,6 +6,7 @@ ghost use Rattle.queue_records.specs.Takes.{IsHandedBy};
 ghost use Rattle.mio_loops.specs.WriteTurn.{TurnAt};
 
 use crate::all_destinations::take_turns;
+use crate::left_writer::LeftTaker;
 use crate::outgoing::Outgoing;
 use crate::write_log::WriteLog;
 use crate::write_report::WriteReport;
@@ -152,8 +153,9 @@ impl<W: Write + Drop> WriteLoop<W> {
         self.destinations.iter().any(|d| d.goes_on())
     }
 
-    /// The logs, one for each destination, in their order. All connections are dropped. It takes no memory.
-    pub fn close(self) -> Vec<WriteLog>
+    /// The logs, one for each destination, in their order. What is left of each destination, with its connection, goes to this
+    /// taker, in the same order. It takes no memory.
+    pub fn release<T: LeftTaker<W>>(self, taker: &mut T) -> Vec<WriteLog>
         ensures { result.items ≡ map (λ o. o.log) self }
     {
         let WriteLoop {
@@ -161,8 +163,12 @@ impl<W: Write + Drop> WriteLoop<W> {
             mut logs,
             gathered: _,
         } = self;
+        let mut dest: usize = 0;
         for destination in destinations {
-            logs.push_reserved(destination.into_log());
+            let (log, left) = destination.into_parts();
+            logs.push_reserved(log);
+            taker.take_left(DestId(dest), left);
+            dest = dest.saturating_add(1);
         }
         logs
     }

@@ -77,7 +77,7 @@ gained-closed s c d out closed represents =
 
 -- ---- an open reader
 
-same_reception : (r : Reception) (rest : List ℕ) → rest ≡ r.partial → r.closed ≡ false → r ≡ with_frames r.frames (open_with [] rest)
+pub same_reception : (r : Reception) (rest : List ℕ) → rest ≡ r.partial → r.closed ≡ false → r ≡ with_frames r.frames (open_with [] rest)
 same_reception r rest is goes =
     ap (λ (b : Bool). record { frames = r.frames; partial = r.partial; closed = b }) goes
     ∙ ap (λ (p : List ℕ). record { frames = r.frames; partial = p; closed = false }) (sym is)

@@ -13,6 +13,7 @@ pub mod NumberLemmas
 pub mod StoredLemmas
 pub mod WriterLemmas
 pub mod PythonLemmas
+pub mod ReadOnLemmas
 pub mod LongTextLemmas
 pub mod TupleLemmas
 pub mod UsualRowLemmas

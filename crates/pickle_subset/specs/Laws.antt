@@ -1,11 +1,11 @@
 -- What holds for the definitions.
-use Rattle.std.specs.Prelude.{◌≡◌, ℕ, ◌≤◌, ◌↔◌, ℤ, List, ◌++◌, length, map, true, [], Some, Ok}
+use Rattle.std.specs.Prelude.{◌≡◌, ℕ, ◌≤◌, ◌↔◌, ℤ, List, ◌++◌, length, map, true, false, [], Some, Ok}
 use Rattle.std.specs.List.{flat_map, AllByRecursion}
 use Rattle.byteorder.specs.Endian.{big_bytes}
 use Rattle.line_text.specs.Connection.{Arrival, arrivals}
 use Rattle.line_text.specs.Laws.{OnlyGrows}
 use Rattle.pickle_subset.specs.Binary.{IsBinaryValue, binary_value}
-use Rattle.pickle_subset.specs.Frame.{Frame, longest_frame, length_size, frames, is_closed}
+use Rattle.pickle_subset.specs.Frame.{Frame, longest_frame, length_size, reception, frames, is_closed}
 use Rattle.pickle_subset.specs.Reader.{GivesNoMore}
 use Rattle.pickle_subset.specs.Pickle.{rows_of}
 use Rattle.pickle_subset.specs.Python as python
@@ -22,6 +22,19 @@ NothingAtFirstLaw = accepted_points [] ≡ []
 -- a reader reads nothing more of a closed connection
 abbrev pub StaysClosedLaw : Type 0
 StaysClosedLaw = (connection : List Arrival) → is_closed connection ≡ true → GivesNoMore connection
+
+-- of a connection that is not closed, what a reader gives that goes on behind what the first one kept of it, whenever that is
+-- fed to it: together they give what one reader gives of the whole
+pub record ReadsOn (c more : List Arrival) (moment : ℕ) : Type 0 where
+  pub frames : frames (c ++ more)
+      ≡ frames c ++ frames (arrivals (reception c).partial moment ++ more)
+  pub accepted_points : accepted_points (c ++ more)
+      ≡ accepted_points c ++ accepted_points (arrivals (reception c).partial moment ++ more)
+  pub closed : is_closed (c ++ more) ≡ is_closed (arrivals (reception c).partial moment ++ more)
+
+abbrev pub ReadsOnLaw : Type 0
+ReadsOnLaw =
+    (c more : List Arrival) (moment : ℕ) → is_closed c ≡ false → ReadsOn c more moment
 
 -- a pickle with its length before it
 abbrev pub frame_of : List ℕ → List ℕ

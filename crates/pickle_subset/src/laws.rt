@@ -1,5 +1,5 @@
 //! Laws of the definitions, for every connection and every pickle. Each is the contract of a function that does nothing.
-ghost use Rattle.pickle_subset.specs.Laws.{AcceptedGrowsLaw, BinaryValueLaw, FramesLaw, NothingAtFirstLaw, ReadsPythonLaw, StaysClosedLaw};
+ghost use Rattle.pickle_subset.specs.Laws.{AcceptedGrowsLaw, BinaryValueLaw, FramesLaw, NothingAtFirstLaw, ReadsOnLaw, ReadsPythonLaw, StaysClosedLaw};
 ghost use Rattle.pickle_subset.specs.PythonExamples.{WritesAsPythonLaw};
 
 /// The value of a binary64 is the number of ten-billionths nearest to the number that its 64 bits denote, the even
@@ -14,6 +14,12 @@ pub fn orderly()
     ensures nothing { NothingAtFirstLaw }
     ensures grows { AcceptedGrowsLaw }
     ensures closed { StaysClosedLaw }
+{}
+
+/// A connection may go on at another reader: if that one is fed first what the first one kept, at any moment, both together
+/// give the datapoints of the whole connection, each once and in order.
+pub fn reads_on()
+    ensures { ReadsOnLaw }
 {}
 
 /// Pickles sent in frames are the frames that a reader reads, in order.

@@ -27,6 +27,12 @@ is_closed (Lines reader) = reader.closed
 is_closed (Pickles reader) = reader.closed
 is_closed Datagrams = false
 
+-- the bytes that are kept of a connection: those behind its last whole line or frame; irrelevant once it is closed
+abbrev pub rest_of : Scan → List ℕ
+rest_of (Lines reader) = reader.rest
+rest_of (Pickles reader) = reader.rest
+rest_of Datagrams = []
+
 -- the reader keeps this of this connection
 abbrev pub Keeps : Scan → Stream → Type 0
 Keeps (Lines reader) connection = lines.Represents reader connection

@@ -5,7 +5,7 @@ ghost use Rattle.line_text.specs.Connection.{arrivals};
 ghost use Rattle.router.specs.Plan.{Plan as PlanValue};
 ghost use Rattle.reader_core.specs.Input.{Stream, fresh_input, input_after_piece, input_after_end};
 ghost use Rattle.reader_core.specs.Configuration.{Dispatch};
-ghost use Rattle.reader_core.specs.Scan.{kind_of, Keeps, gone_on, is_too_long};
+ghost use Rattle.reader_core.specs.Scan.{kind_of, Keeps, rest_of, gone_on, is_too_long};
 ghost use Rattle.reader_core.specs.Scan as scans;
 ghost use Rattle.reader_core.specs.declared.scan.Scan.TheVariants.{Datagrams};
 ghost use Rattle.reader_core.specs.Taking.{PieceTaken};
@@ -155,6 +155,14 @@ impl Reader {
         ensures datagrams { self.old.scan ≡ Datagrams → self.new ≡ self.old }
     {
         self.scan.begin(self.alloc);
+    }
+
+    /// The bytes of the current connection behind its last whole line or frame, if it is not closed; none of datagrams. Another
+    /// reader of this kind that is fed these first reads on where this one is.
+    pub fn rest(&self) -> &[u8]
+        ensures { result.now ≡ rest_of self.now.scan }
+    {
+        self.scan.rest()
     }
 
     /// Whether nothing more of the connection is read, in which case [`Reader::feed`] returns `Closed`.

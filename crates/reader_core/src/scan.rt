@@ -5,7 +5,7 @@ ghost use Rattle.line_text.specs.Reader.{is_too_long as lines_too_long};
 ghost use Rattle.pickle_subset.specs.Reader.{is_too_long as frames_too_long};
 ghost use Rattle.reader_core.specs.Input.{Stream};
 ghost use Rattle.reader_core.specs.declared.scan.Scan.TheVariants.{Datagrams};
-ghost use Rattle.reader_core.specs.Scan.{kind_of, is_closed, Keeps, PieceFound, scan_after, fits, counts_found, gone_on, is_too_long};
+ghost use Rattle.reader_core.specs.Scan.{kind_of, is_closed, rest_of, Keeps, PieceFound, scan_after, fits, counts_found, gone_on, is_too_long};
 
 use crate::fault::ReaderEnd;
 use crate::kind::ReaderKind;
@@ -78,6 +78,17 @@ impl Scan {
             Scan::Lines(reader) => reader.is_closed(),
             Scan::Pickles(reader) => reader.is_closed(),
             Scan::Datagrams => false,
+        }
+    }
+
+    /// The bytes of the current connection behind its last whole line or frame, if it is not closed.
+    pub(crate) fn rest(&self) -> &[u8]
+        ensures { result.now ≡ rest_of self.now }
+    {
+        match self {
+            Scan::Lines(reader) => reader.rest(),
+            Scan::Pickles(reader) => reader.rest(),
+            Scan::Datagrams => &[],
         }
     }
 

@@ -1,3 +1,4 @@
+pub mod AcceptedLemmas
 pub mod MomentLemmas
 pub mod RanLemmas
 pub mod DatagramLemmas

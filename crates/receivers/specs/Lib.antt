@@ -1,3 +1,4 @@
+pub mod Accepted
 pub mod Datagrams
 pub mod Record
 pub mod Turns

@@ -35,8 +35,22 @@ pub trait Accept {
     fn wait(&mut self, millis: u64) -> Result<&[Token], ReadinessFault>
         ensures device { IfErr result (λ fault. fault ≡ ReadinessFault.Device) };
 
+    /// Whether the next connection is one that an ended run has handed over. These come first, and a wait reports at once that
+    /// they wait to be taken.
+    fn has_handed(&self) -> bool {
+        false
+    }
+
     /// Takes the next connection, and watches it under the token. Without a token it is closed.
     fn accept(&mut self, token: Option<Token>) -> AcceptOutcome<Self::Stream>;
+
+    /// Takes over the connection of a token, which the receiver gives up behind these bytes: those of its unfinished line or
+    /// frame. Whoever reads on is fed these first. Called for each held connection once the receiver was stopped. A listener
+    /// that hands nothing on drops it.
+    fn hand_over(&mut self, _token: Token, _stream: Self::Stream, _rest: &[u8]) {}
+
+    /// Hands on, behind these, the connections that were handed over and that the receiver did not take.
+    fn hand_over_others(&mut self) {}
 
     /// Takes note of what the receiver has counted since it began. Called ten times a second, or once
     /// a turn where turns are longer, and when the receiver ends.

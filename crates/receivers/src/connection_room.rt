@@ -6,7 +6,7 @@ use std::sync::atomic::{AtomicUsize, Ordering};
 /// The room for the connections of several listeners together, so that the system has descriptors left for other uses.
 #[derive(Drop)]
 pub struct ConnectionRoom {
-    most: usize,
+    most: AtomicUsize,
     held: AtomicUsize,
 }
 
@@ -14,9 +14,17 @@ impl ConnectionRoom {
     /// Room for this many connections, of which none is held.
     pub fn new(most: usize) -> ConnectionRoom {
         ConnectionRoom {
-            most,
+            most: AtomicUsize::new(most),
             held: AtomicUsize::new(0),
         }
+    }
+
+    /// So many descriptors were kept for other uses, and from now on so many are. Connections that have a place keep it. One
+    /// thread at most calls it.
+    pub fn keep_for_others(&self, before: usize, now: usize) {
+        let most = self.most.load(Ordering::SeqCst);
+        let all = most.saturating_add(before);
+        self.most.store(all.saturating_sub(now), Ordering::SeqCst);
     }
 }
 
@@ -36,7 +44,8 @@ impl Place {
             return Err(NoPlace);
         };
         let place = Place { room };
-        if place.room.held.fetch_add(1, Ordering::SeqCst) < place.room.most {
+        let most = place.room.most.load(Ordering::SeqCst);
+        if place.room.held.fetch_add(1, Ordering::SeqCst) < most {
             Ok(place)
         } else {
             Err(NoPlace)

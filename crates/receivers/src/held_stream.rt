@@ -1,18 +1,22 @@
 //! A connection of a listener of the network.
+ghost use Rattle.std.specs.Prelude.{◌≡◌, ◌++◌, IfOk, IfSome};
 ghost use Rattle.std.specs.Io.{ReadsAtMost};
 
 use crate::connection_room::Place;
 use crate::connections::Connections;
+use crate::handed_stream::HandedStream;
 use crate::long_words::LongWords;
 use crate::progress::Progress;
+use handover::FirstBytes;
 use log_lines::LossReason;
 use mio::net::TcpStream;
 use mio_loops::Token;
 use reader_core::ReaderKind;
+use relay_base::NoMemory;
 use std::alloc::Global;
 use std::io;
 use std::io::{ErrorKind, Read};
-use std::net::Shutdown;
+use std::net::{IpAddr, Shutdown};
 use std::sync::Arc;
 
 /// How the last read of a connection ended.
@@ -37,7 +41,7 @@ enum LastRead {
 /// When it is dropped, it counts why: a receiver drops a connection after a read that ended or failed, and after bytes that
 /// have an overlong line or frame or found no memory.
 pub struct HeldStream {
-    stream: TcpStream,
+    stream: FirstBytes<TcpStream>,
     token: Token,
     connections: Arc<Connections>,
     progress: Progress,
@@ -52,15 +56,18 @@ pub struct HeldStream {
 }
 
 impl HeldStream {
-    /// A connection that was taken now, under a token, to a reader of this kind, and its place.
+    /// A connection that was taken now, under a token, to a reader of this kind, and its place. An earlier reader may have left
+    /// bytes that come first.
     pub(crate) fn new(
         alloc: Global,
-        stream: TcpStream,
+        stream: FirstBytes<TcpStream>,
         token: Token,
         kind: ReaderKind,
         connections: Arc<Connections>,
         place: Option<Place>,
-    ) -> HeldStream {
+    ) -> HeldStream
+        ensures { result.stream ≡ stream }
+    {
         connections.idle.note_unit(token);
         let is_early = !connections.control.is_closing();
         connections.control.note_held(is_early);
@@ -123,9 +130,58 @@ impl HeldStream {
         if is_due && !self.is_half_closed {
             self.is_half_closed = true;
             // A connection that is gone already has no half to close.
-            let _ = self.stream.shutdown(Shutdown::Write);
+            let _ = self.stream.stream().shutdown(Shutdown::Write);
         }
     }
+
+    /// Gives the connection up for another reader, which is fed these bytes first: those of its unfinished line or frame. It is
+    /// no loss. Behind these come the bytes that were handed over with it and that nobody has read. If out of memory for them,
+    /// the connection is closed, and that is one.
+    pub(crate) fn hand_over(self, rest: &[u8], peer: IpAddr) -> Option<HandedStream>
+        ensures { IfSome result (λ handed. handed.first.items ≡ rest.now ++ self.stream.bytes) }
+    {
+        let HeldStream {
+            stream,
+            token,
+            connections,
+            progress: _,
+            last: _,
+            is_early,
+            is_half_closed: _,
+            long_words: _,
+            alloc,
+            place,
+        } = self;
+        let last_unit = connections.idle.last_of(token);
+        connections.idle.note_left(token);
+        connections.control.note_left(is_early);
+        let (unread, stream) = stream.into_parts();
+        let Ok(first) = joined(alloc, rest, unread) else {
+            connections.note_loss(LossReason::MemoryShort);
+            drop((stream, place));
+            return None;
+        };
+        Some(HandedStream {
+            stream,
+            peer,
+            first,
+            place,
+            last_unit,
+        })
+    }
+}
+
+/// These bytes, and then those that an earlier reader had left and nobody has read.
+fn joined(alloc: Global, rest: &[u8], unread: Vec<u8>) -> Result<Vec<u8>, NoMemory>
+    ensures { IfOk result (λ bytes. bytes.items ≡ rest.now ++ unread.items) }
+{
+    if rest.is_empty() {
+        return Ok(unread);
+    }
+    let mut bytes = Vec::with_capacity(alloc, rest.len().saturating_add(unread.len()))?;
+    bytes.extend_from_slice(rest)?;
+    bytes.extend_from_slice(unread.as_slice())?;
+    Ok(bytes)
 }
 
 /// Why a connection is dropped, by its last read and how far it is within a line or a frame; `None` if it ended in order, or

@@ -62,6 +62,21 @@ impl IdleTimes {
         }
     }
 
+    /// The connection of a token sent the end of its last line or frame at these milliseconds, to another receiver.
+    pub(crate) fn note_unit_at(&self, token: Token, millis: u64) {
+        if let Some(last) = self.last.get(token.0) {
+            last.store(millis, Ordering::SeqCst);
+        }
+    }
+
+    /// When the connection of a token sent the end of its last line or frame, or was taken.
+    pub(crate) fn last_of(&self, token: Token) -> u64 {
+        match self.last.get(token.0) {
+            Some(last) => last.load(Ordering::SeqCst),
+            None => NEVER,
+        }
+    }
+
     /// The connection of a token has left.
     pub(crate) fn note_left(&self, token: Token) {
         if let Some(last) = self.last.get(token.0) {

@@ -1,15 +1,19 @@
 //! A listener of the network.
-ghost use Rattle.std.specs.Prelude.{◌≡◌, IfErr};
+ghost use Rattle.std.specs.Prelude.{◌≡◌, [], ◌∷◌, ◌++◌, IfErr};
+ghost use Rattle.receivers.specs.Accepted.{IfTaken};
+ghost use Rattle.receivers.specs.declared.handed_stream.HandedStream.{HandedStream};
 
 use crate::accept::{Accept, AcceptOutcome};
 use crate::bad_input::{Lines, wrong_with};
 use crate::connection_room::{ConnectionRoom, Place, place_in};
 use crate::connections::Connections;
 use crate::control::{ReceiverControl, shared_control};
+use crate::handed_stream::{HandedStream, HandedStreams};
 use crate::held_stream::HeldStream;
 use crate::optional_notes::OptionalNotes;
 use crate::refusal::{no_descriptor, refused};
 use crate::stream_port::StreamPort;
+use handover::FirstBytes;
 use log_lines::{BadExample, ReceiverNotes};
 use mio::net::{TcpListener, TcpStream};
 use mio_loops::{LISTENER, MOST_CONNECTIONS, ReadTotals, Readiness, ReadinessFault, Token};
@@ -26,6 +30,9 @@ const MOST_TOKENS: usize = 2 * MOST_CONNECTIONS + 3;
 
 /// The address of a connection that never was.
 const NO_PEER: IpAddr = IpAddr::V4(Ipv4Addr::UNSPECIFIED);
+
+/// What a wait returns while connections are left that were handed over.
+static ONLY_LISTENER: [Token; 1] = [LISTENER];
 
 /// How far a listener has closed.
 #[derive(Clone, Copy, PartialEq)]
@@ -56,6 +63,10 @@ pub struct StreamListener {
     peers: Vec<IpAddr>,
     // The tokens of the last wait, if it returned others than those of what is ready.
     tokens: Vec<Token>,
+    // Where its connections go once it is stopped; without it they are closed.
+    handed: Option<Arc<HandedStreams>>,
+    // The connections of an ended run that it takes first, the last one first.
+    resumed: Vec<HandedStream>,
 }
 
 /// What watches a listener and its connections.
@@ -147,6 +158,8 @@ impl StreamListener {
                 step: ClosingStep::Open,
                 peers: watch.peers,
                 tokens: watch.tokens,
+                handed: None,
+                resumed: Vec::new(alloc),
             }),
             Err(fault) => {
                 drop((listener, room));
@@ -172,13 +185,51 @@ impl StreamListener {
         Ok(Arc::try_clone(&self.connections.control)?)
     }
 
+    /// Takes first the connections that are there, which the receiver of an ended run handed over, as if they were new; but the
+    /// bytes that were not read come first. Once the receiver is stopped, its connections go there, if they are handed over.
+    pub fn set_handed(&mut self, handed: Arc<HandedStreams>) {
+        let mut resumed = handed.take(self.alloc);
+        resumed.reverse();
+        self.resumed = resumed;
+        self.handed = Some(handed);
+    }
+
+    /// Takes the next connection that was handed over, if there is one, and watches it under the token. Without a token it is
+    /// closed.
+    fn resume(&mut self, token: Option<Token>) -> AcceptOutcome<HeldStream>
+        // It is the last of the list, and the bytes that come first are those with which it was handed over.
+        ensures { IfTaken result (λ held. (handed : HandedStream)
+            × (self.old.resumed.items ≡ self.new.resumed.items ++ handed ∷ [])
+            × (held.stream.bytes ≡ handed.first.items)) }
+    {
+        let Some(handed) = self.resumed.pop() else {
+            return AcceptOutcome::Nothing;
+        };
+        let HandedStream {
+            stream,
+            peer,
+            first,
+            place,
+            last_unit,
+        } = handed;
+        self.note_peer(token, peer);
+        let watched = self.watch(stream, first, token, place);
+        if let Some(token) = token {
+            self.connections.idle.note_unit_at(token, last_unit);
+        }
+        watched
+    }
+
     /// Watches a connection under a token. One that has none, or that the system does not watch, is dropped.
     fn watch(
         &self,
         stream: TcpStream,
+        first: Vec<u8>,
         token: Option<Token>,
         place: Option<Place>,
-    ) -> AcceptOutcome<HeldStream> {
+    ) -> AcceptOutcome<HeldStream>
+        ensures { IfTaken result (λ held. held.stream.bytes ≡ first.items) }
+    {
         let Some(token) = token else {
             return AcceptOutcome::Closed;
         };
@@ -190,7 +241,7 @@ impl StreamListener {
             Ok(()) => {
                 let held = HeldStream::new(
                     self.alloc,
-                    stream,
+                    FirstBytes::new(self.alloc, first, stream),
                     token,
                     self.kind,
                     connections,
@@ -203,7 +254,9 @@ impl StreamListener {
     }
 
     /// Remembers the address of the connection that a token gets. That of IPv4 is known as such also at a port of IPv6.
-    fn note_peer(&mut self, token: Option<Token>, address: IpAddr) {
+    fn note_peer(&mut self, token: Option<Token>, address: IpAddr)
+        ensures { self.new.resumed.items ≡ self.old.resumed.items }
+    {
         let Some(token) = token else {
             return;
         };
@@ -259,6 +312,10 @@ impl Accept for StreamListener {
     }
 
     fn wait(&mut self, millis: u64) -> Result<&[Token], ReadinessFault> {
+        if self.has_handed() {
+            // What was taken is served meanwhile, since each is in the again list at first.
+            return Ok(&ONLY_LISTENER);
+        }
         let is_stepping = self.take_step();
         let control = &self.connections.control;
         if !is_stepping && !self.connections.idle.is_look_due() {
@@ -277,7 +334,14 @@ impl Accept for StreamListener {
         Ok(self.tokens.as_slice())
     }
 
+    fn has_handed(&self) -> bool {
+        !self.resumed.is_empty()
+    }
+
     fn accept(&mut self, token: Option<Token>) -> AcceptOutcome<HeldStream> {
+        if self.has_handed() {
+            return self.resume(token);
+        }
         let Ok(place) = place_in(&self.room) else {
             return self.note_refusal(&no_descriptor());
         };
@@ -293,9 +357,32 @@ impl Accept for StreamListener {
                 } else {
                     self.notes.note_taken();
                 }
-                self.watch(stream, token, place)
+                self.watch(stream, Vec::new(self.alloc), token, place)
             }
             Err(error) => self.note_refusal(&error),
+        }
+    }
+
+    fn hand_over(&mut self, token: Token, stream: HeldStream, rest: &[u8]) {
+        let Some(handed) = &self.handed else {
+            drop(stream);
+            return;
+        };
+        if !handed.is_open() {
+            drop(stream);
+            return;
+        }
+        let peer = self.peers.get(token.0).copied().unwrap_or(NO_PEER);
+        if let Some(stream) = stream.hand_over(rest, peer) {
+            handed.put(stream);
+        }
+    }
+
+    fn hand_over_others(&mut self) {
+        for _ in 0..self.resumed.len() {
+            if let (Some(stream), Some(handed)) = (self.resumed.pop(), &self.handed) {
+                handed.put(stream);
+            }
         }
     }
 

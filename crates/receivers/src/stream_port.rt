@@ -2,6 +2,7 @@
 
 use crate::connection_room::ConnectionRoom;
 use mio::net::TcpListener;
+use std::io::ErrorKind;
 use std::sync::Arc;
 use std::{io, net};
 
@@ -21,11 +22,15 @@ impl StreamPort {
         }
     }
 
-    /// Another listener of the same port, with room for all connections. Refuses what the system refuses.
+    /// Another listener of the same port, with the same room. Refuses what the system refuses.
     pub fn try_clone(&self) -> io::Result<StreamPort> {
+        let room = match &self.room {
+            Some(room) => Some(clone_of(room)?),
+            None => None,
+        };
         Ok(StreamPort {
             listener: self.listener.try_clone()?,
-            room: None,
+            room,
         })
     }
 
@@ -35,8 +40,21 @@ impl StreamPort {
         self.room = Some(room);
     }
 
+    /// The room, if it is limited.
+    pub fn room(&self) -> Option<&Arc<ConnectionRoom>> {
+        self.room.as_ref()
+    }
+
     /// The listener, and the room, if it is limited.
     pub(crate) fn into_parts(self) -> (TcpListener, Option<Arc<ConnectionRoom>>) {
         (TcpListener::from_std(self.listener), self.room)
+    }
+}
+
+/// The same room. Refuses if too many share it.
+fn clone_of(room: &Arc<ConnectionRoom>) -> io::Result<Arc<ConnectionRoom>> {
+    match Arc::try_clone(room) {
+        Ok(room) => Ok(room),
+        Err(_) => Err(io::Error::from(ErrorKind::OutOfMemory)),
     }
 }

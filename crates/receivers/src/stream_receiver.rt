@@ -5,6 +5,7 @@ ghost use Rattle.receivers.specs.Record.{EndsFor, RanOrRefused};
 ghost use Rattle.receivers.specs.Turns.{TurnsProgress};
 
 use crate::accept::Accept;
+use crate::handing::hand_over_if;
 use crate::noting_times::NotingTimes;
 use crate::record::{ReceiverRecord, without_memory};
 use crate::serving::serve_until;
@@ -26,6 +27,9 @@ pub(crate) const MOST_WAIT_MS: u64 = 100;
 /// give to readers of a kind, `Line` or `Pickle`, and makes all their offers through the door. The readers are
 /// those of the receiver's number, which is below [`MOST_RECEIVERS`], and the door has all destinations of the
 /// plan.
+///
+/// Once it was stopped, each connection that it holds goes to the listener, with the bytes of its unfinished line or frame
+/// ([`Accept::hand_over`]).
 ///
 /// A connection beyond what a loop holds is dropped. The receiver looks at the stop flag before each connection
 /// that a turn serves and after each turn. It ends with a fault if the listener or the readiness fails (`Device`), and
@@ -66,6 +70,7 @@ pub fn receive_streams<R: Wait, A: Accept + Drop, D: Door + Drop, T: TimeSource,
     );
     drop(plan);
     listener.note_totals(reads.totals());
+    hand_over_if(fault.is_none(), &mut listener, &mut reads);
     ReceiverRecord {
         door,
         log: reads.close(),

@@ -102,6 +102,16 @@ impl RunConfiguration {
         )
     }
 
+    /// Whether another configuration has the same file of relay rules, or none as this one.
+    pub fn has_same_rules(&self, other: &RunConfiguration) -> bool {
+        bytes_of(&self.rules) == bytes_of(&other.rules)
+    }
+
+    /// Whether another configuration has the same rewrite file, with the same limit on names.
+    pub fn has_same_rewriting(&self, other: &RunConfiguration) -> bool {
+        bytes_of(&self.rewrite) == bytes_of(&other.rewrite)
+    }
+
     /// A plan of the configuration. The texts have no fault, since a plan was made from them before; so it returns
     /// `NoMemory` if memory runs out, and else the fault of a pattern that the kit's `regex` now refuses.
     pub fn plan(&self, alloc: Global) -> Result<Plan, RelayFault>

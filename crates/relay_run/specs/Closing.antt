@@ -25,6 +25,10 @@ closing_line (Err settle.NoOrder) = codes "no order\n"
 closing_line (Err settle.Strangers) = codes "strangers\n"
 closing_line (Err settle.NoMemory) = []
 
+-- the line of the log on a run that another one follows
+abbrev pub ended_line : (number : ℕ) → Result Settled SettleFault → List ℕ
+ended_line number settled = codes "run " ++ decimal number ++ codes ": " ++ closing_line settled
+
 -- the status of a run with this end of its settling
 abbrev pub closing_status : Result Settled SettleFault → Status
 closing_status (Ok settled) = status.Done

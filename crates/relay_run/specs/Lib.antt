@@ -1,2 +1,4 @@
 pub mod Closing
+pub mod LeftDest
+pub mod RunEnd
 pub mod Running

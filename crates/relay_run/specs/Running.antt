@@ -19,9 +19,14 @@ use Rattle.relay_run.specs.Closing.{closing_line, closing_status, input_fault, o
 abbrev pub ready_line : List ℕ
 ready_line = codes "ready\n"
 
--- all that a run writes which settles so
-abbrev pub run_text : Result Settled SettleFault → List ℕ
-run_text settled = ready_line ++ closing_line settled
+-- what a run says once all its threads have begun: that they are ready, if no run was before it
+abbrev pub opening : (is_first : Bool) → List ℕ
+opening true = ready_line
+opening false = []
+
+-- all that a run writes that begins so, and settles so
+abbrev pub run_text : (opening : List ℕ) → Result Settled SettleFault → List ℕ
+run_text opening settled = opening ++ closing_line settled
 
 -- ---- the fault of a run whose threads have ended
 
@@ -61,11 +66,11 @@ is_output_fault Output = true
 is_output_fault NoMemory = true
 is_output_fault fault = false
 
--- what the first thread wrote while the others ran: that all are ready, or a first part of it
-abbrev pub Served : (before after : Option (List ℕ)) → Result (Unit {0}) RelayFault → Type 0
-Served before after (Ok done) = Appends before after ready_line
-Served before after (Err fault) =
-    (is_output_fault fault ≡ true) × GrowsByPart before after ready_line
+-- what the first thread wrote while the others ran: its opening, or a first part of it
+abbrev pub Served : (opening : List ℕ) → (before after : Option (List ℕ)) → Result (Unit {0}) RelayFault → Type 0
+Served opening before after (Ok done) = Appends before after opening
+Served opening before after (Err fault) =
+    (is_output_fault fault ≡ true) × GrowsByPart before after opening
 
 -- the fault of some threads
 abbrev pub IsThreadFault : Option RelayFault → Type 0
@@ -73,11 +78,11 @@ IsThreadFault fault =
     (receivers : List (Option ReadinessFault)) × (senders : List (Option ReadinessFault))
     × (fault ≡ thread_fault receivers senders)
 
--- a run fails before it closes: before it was ready, with nothing written, or with a first part of `ready` written
-abbrev pub FailsBeforeClosing : (before after : Option (List ℕ)) → RelayFault → Type 0
-FailsBeforeClosing before after fault =
+-- a run fails before it closes: before its opening, with nothing written, or with a first part of the opening written
+abbrev pub FailsBeforeClosing : (opening : List ℕ) → (before after : Option (List ℕ)) → RelayFault → Type 0
+FailsBeforeClosing opening before after fault =
     ((is_start_fault fault ≡ true) × Keeps before after)
-    ⊎ ((is_output_fault fault ≡ true) × GrowsByPart before after ready_line)
+    ⊎ ((is_output_fault fault ≡ true) × GrowsByPart before after opening)
 
 -- the closing line was not written whole; or it was, and a thread had this fault
 abbrev pub ClosesWith : (before after : Option (List ℕ)) → Result Settled SettleFault
@@ -86,36 +91,42 @@ ClosesWith before after settled thread fault =
     ((is_output_fault fault ≡ true) × GrowsByPart before after (closing_line settled))
     ⊎ ((thread ≡ Some fault) × Appends before after (closing_line settled))
 
--- a run ends with a status: it has written that it was ready and how it settled, and the status is that of the same
--- settling
-pub record RunEnds (before after : Option (List ℕ)) (status : Status) : Type 0 where
+-- a run ends with a status: it has written its opening and how it settled, and the status is that of the same settling
+pub record RunEnds (opening : List ℕ) (before after : Option (List ℕ)) (status : Status) : Type 0 where
   pub settled : Result Settled SettleFault
-  pub wrote : Appends before after (run_text settled)
+  pub wrote : Appends before after (run_text opening settled)
   pub says : status ≡ closing_status settled
 
 -- a run ends with a fault
-pub data RunFails (before after : Option (List ℕ)) (fault : RelayFault) : Type 0 where
-  -- before it was ready, with nothing written
-  AtStart : is_start_fault fault ≡ true → Keeps before after → RunFails before after fault
+pub data RunFails (opening : List ℕ) (before after : Option (List ℕ)) (fault : RelayFault) : Type 0 where
+  -- before its opening, with nothing written
+  AtStart : is_start_fault fault ≡ true → Keeps before after → RunFails opening before after fault
   -- before it closed, with a first part of what was due written
   AtLines : (settled : Result Settled SettleFault) → is_output_fault fault ≡ true
-      → GrowsByPart before after (run_text settled) → RunFails before after fault
-  -- with the fault of a thread, after it has written that it was ready and how it settled
+      → GrowsByPart before after (run_text opening settled) → RunFails opening before after fault
+  -- with the fault of a thread, after it has written its opening and how it settled
   OfThread : (settled : Result Settled SettleFault)
       → (receivers senders : List (Option ReadinessFault))
       → thread_fault receivers senders ≡ Some fault
-      → Appends before after (run_text settled) → RunFails before after fault
+      → Appends before after (run_text opening settled) → RunFails opening before after fault
 
--- ---- a run of files
+-- a relay, of one run or of several, ends with a fault: as a run that says that it is ready, or, with that written, as one that
+-- could not begin after a reload
+abbrev pub RelayFails : (before after : Option (List ℕ)) → RelayFault → Type 0
+RelayFails before after fault =
+    RunFails ready_line before after fault
+    ⊎ ((is_start_fault fault ≡ true) × Appends before after ready_line)
 
--- files that are a configuration, and a run that ends with a status
+-- ---- a relay of files
+
+-- files that are a configuration, and a relay whose last run ends with a status
 abbrev pub EndsWithStatus : (before after : Option (List ℕ)) → Status → Files → Type 0
 EndsWithStatus before after status files =
-    (c : Configuration) × (configuration_of files ≡ Ok c) × RunEnds before after status
+    (c : Configuration) × (configuration_of files ≡ Ok c) × RunEnds ready_line before after status
 
--- the fault is the first that the files have, and nothing was written; or they are a configuration, and its run fails
+-- the fault is the first that the files have, and nothing was written; or they are a configuration, and its relay fails
 abbrev pub EndsWithFault : {S : Type 0} → Sources S → Sources S → (before after : Option (List ℕ))
     → RelayFault → Files → Type 0
 EndsWithFault old new before after fault files =
     (EndsAt old new files fault × Keeps before after)
-    ⊎ ((c : Configuration) × (configuration_of files ≡ Ok c) × RunFails before after fault)
+    ⊎ ((c : Configuration) × (configuration_of files ≡ Ok c) × RelayFails before after fault)

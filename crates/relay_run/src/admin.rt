@@ -1,21 +1,29 @@
 //! The admin port: how its commands are answered, and when the run ends.
 
-ghost use Rattle.std.specs.Prelude.{◌≡◌, length};
+ghost use Rattle.std.specs.Prelude.{◌≡◌, true, length};
+ghost use Rattle.std.specs.Option.{is_none};
 
-use crate::first_thread::FirstThread;
+use crate::ended_run::EndedRecord;
+use crate::first_work::FirstWork;
+use crate::listeners::FirstPorts;
+use crate::prepared_run::{PreparedRun, prepared_by};
 use crate::relay::Relay;
-use admin_port::{AdminListener, Answers};
+use crate::reload_source::{RefusedReload, ReloadSource};
+use crate::spool_folder::SpoolFolder;
+use crate::start::Process;
+use admin_port::{AdminListener, Answers, AskedReload};
 use admin_report::report;
 use conf_text::Dest;
 use dest_queue::Counts;
+use finished_run::Recorder;
 use locked_queues::{Queues, Set};
 use mio_loops::{SystemTimes, TimeSource};
 use receivers::{ClosingWait, ReceiverControl, wake_receivers};
 use relay_base::{DestId, NoMemory, add};
-use relay_files::{RelayFault, write_out};
-use run_state::{Drain, EndState, SpoolWait, Unsent};
+use relay_watchers::{LogEnd, StatusServer};
+use run_state::{DestSources, Drain, EndState, SpoolWait, Unsent};
+use spool::SpoolDisk;
 use std::alloc::Global;
-use std::io::Write;
 use std::net::Net;
 use std::rt::Clock;
 use std::sync::{Arc, Wait};
@@ -36,8 +44,8 @@ const SPOOL_PAUSE_MS: u64 = 1;
 #[derive(Drop)]
 struct ReportSource<'x, B: Set> {
     queues: &'x Queues<B>,
-    dests: &'x [Dest],
-    ghost all: { length dests.now ≡ B.dests },
+    noted: DestSources<'x>,
+    ghost all: { length noted.dests.now ≡ B.dests },
 }
 
 impl<'x, B: Set> ReportSource<'x, B> {
@@ -45,16 +53,17 @@ impl<'x, B: Set> ReportSource<'x, B> {
     fn new(relay: &'x Relay<B>) -> ReportSource<'x, B> {
         ReportSource {
             queues: &relay.queues,
-            dests: relay.noted().dests,
+            noted: relay.noted(),
         }
     }
 
     /// The counts of each queue, one after the other: not at one moment.
     fn counts<R: Wait>(&self, rt: &R, alloc: Global) -> Result<Vec<(Dest, Counts)>, NoMemory> {
         let mut lines = Vec::new(alloc);
-        for place in 0..self.dests.len() {
+        for place in 0..self.noted.dests.len() {
             let counts = self.queues.counts(rt, DestId(place));
-            add(&mut lines, (self.dests[place].clone()?, counts))?;
+            let all = self.noted.counts_at(place, counts);
+            add(&mut lines, (self.noted.dests[place].clone()?, all))?;
         }
         Ok(lines)
     }
@@ -68,29 +77,193 @@ impl<'x, B: Set, R: Wait> Answers<R> for ReportSource<'x, B> {
     }
 }
 
-/// The admin port of a relay, with its listener, the controls of the receivers, and the output that says `ready`.
+/// The admin port of a relay, with what the first thread works on, the controls of the receivers, who reads files for a reload,
+/// what all runs have in common, and who records runs.
 #[derive(Drop)]
-pub(crate) struct AdminPort<'p, B: Set, W> {
+pub(crate) struct AdminPort<'p, B: Set, L, F, K> {
     pub(crate) relay: &'p Relay<B>,
     pub(crate) controls: &'p [Arc<ReceiverControl>],
-    pub(crate) listener: &'p mut AdminListener,
-    pub(crate) output: &'p mut W,
+    pub(crate) state: &'p mut FirstState<B, L>,
+    pub(crate) files: &'p F,
+    pub(crate) process: &'p Process<'p>,
+    pub(crate) recorder: &'p mut Option<K>,
 }
 
-impl<B: Set, R: Wait + Clock + Net, W: Write> FirstThread<R> for AdminPort<'_, B, W> {
-    ghost written = { λ port. W.contents port.output.now };
+/// What the first thread of a run works on: its ports, what is still to do for the run before, the run that is to follow, once it
+/// is known, and what the threads left that watched.
+#[derive(Drop)]
+pub(crate) struct FirstState<B: Set, L> {
+    pub(crate) ports: FirstPorts,
+    pub(crate) before: RunBefore,
+    pub(crate) next: Option<PreparedRun<B>>,
+    pub(crate) log: Option<LogEnd<L>>,
+    pub(crate) server: Option<StatusServer>,
+}
 
-    ghost which = { λ port. port.output.ghost_name };
+/// What the first thread has still to do for the run before, once this one has begun: the connection that waits to be told of
+/// it, and the record.
+#[derive(Drop)]
+pub(crate) struct RunBefore {
+    pub(crate) waiting: Option<u64>,
+    pub(crate) record: Option<EndedRecord>,
+}
 
-    fn serve(&mut self, rt: &R, alloc: Global) -> Result<(), RelayFault> {
-        write_out(self.output, b"ready\n")?;
-        answer_until_stopped(rt, alloc, self.listener, self.relay);
-        Ok(())
+impl RunBefore {
+    /// No run was before.
+    pub(crate) fn none() -> RunBefore
+        ensures { is_none result.waiting ≡ true }
+    {
+        RunBefore {
+            waiting: None,
+            record: None,
+        }
+    }
+}
+
+/// Ends the run before, if there was one: it settles and is recorded, the log says how it settled, and what it held is freed.
+fn end_before<B: Set, R: Wait, K: Recorder>(
+    rt: &R,
+    alloc: Global,
+    relay: &Relay<B>,
+    before: &mut RunBefore,
+    recorder: &mut Option<K>,
+) {
+    if let Some(record) = before.record.take() {
+        if let Ok(text) = record.finish(alloc, recorder) {
+            relay.late_news.put(rt, text);
+        }
+    }
+}
+
+/// Answers commands until one is `stop`, or until another run is ready to follow, which is returned.
+fn answer_until_ended<B: Set, R: Wait + Clock + Net + SpoolDisk, F: ReloadSource>(
+    rt: &R,
+    alloc: Global,
+    relay: &Relay<B>,
+    ports: &mut FirstPorts,
+    files: &F,
+    folder: Option<SpoolFolder<'_>>,
+) -> Option<PreparedRun<B>> {
+    let watched = ReportSource::new(relay);
+    let times = SystemTimes::since(rt, relay.began);
+    for _ in rt.forever() {
+        let millis = times.millis();
+        if ports.admin.take_turn(rt, alloc, &watched, millis, PAUSE_MS) {
+            return None;
+        }
+        if let Some(asked) = ports.admin.next_reload(alloc) {
+            let next = prepare(rt, alloc, relay, ports, files, folder, asked, millis);
+            if next.is_some() {
+                return next;
+            }
+        }
+    }
+    unreachable!()
+}
+
+/// Makes ready the run that a connection has asked for, or answers why not.
+fn prepare<B: Set, R: SpoolDisk, F: ReloadSource>(
+    rt: &R,
+    alloc: Global,
+    relay: &Relay<B>,
+    ports: &mut FirstPorts,
+    files: &F,
+    folder: Option<SpoolFolder<'_>>,
+    asked: AskedReload,
+    millis: u64,
+) -> Option<PreparedRun<B>> {
+    let AskedReload {
+        connection,
+        request,
+    } = asked;
+    let prepared = prepared_by(
+        rt,
+        alloc,
+        relay,
+        ports,
+        files,
+        folder,
+        request.as_slice(),
+        connection,
+    );
+    drop(request);
+    match prepared {
+        Ok(prepared) => Some(prepared),
+        Err(refused) => {
+            refuse(alloc, &mut ports.admin, connection, refused, millis);
+            None
+        }
+    }
+}
+
+/// Answers a connection why the relay goes on as it was.
+fn refuse(
+    alloc: Global,
+    admin: &mut AdminListener,
+    connection: u64,
+    refused: RefusedReload,
+    millis: u64,
+) {
+    let answer = refused.answer(alloc);
+    drop(refused);
+    match answer {
+        Some(answer) => admin.answer_reload(connection, answer, millis),
+        None => admin.answer_no_memory(connection, millis),
+    }
+}
+
+impl<B: Set, R: Wait + Clock + Net + SpoolDisk, L: Drop, F: ReloadSource, K: Recorder> FirstWork<
+    R,
+    LogEnd<L>,
+    StatusServer,
+> for AdminPort<'_, B, L, F, K> {
+    ghost is_first = { λ port. is_none port.state.now.before.waiting };
+
+    fn is_first(&self) -> bool {
+        self.state.before.waiting.is_none()
+    }
+
+    fn serve(&mut self, rt: &R, alloc: Global) {
+        let relay = self.relay;
+        if let Some(connection) = self.state.before.waiting.take() {
+            let millis = SystemTimes::since(rt, relay.began).millis();
+            self.state.ports.admin.answer_reloaded(connection, millis);
+        }
+        end_before(rt, alloc, relay, &mut self.state.before, self.recorder);
+        let ports = &mut self.state.ports;
+        self.state.next = answer_until_ended(
+            rt,
+            alloc,
+            relay,
+            ports,
+            self.files,
+            self.process.folder,
+        );
+        if self.state.next.is_some() {
+            for streams in &self.relay.streams {
+                streams.open();
+            }
+        }
+    }
+
+    fn is_followed(&self) -> bool {
+        self.state.next.is_some()
+    }
+
+    fn follows(&self) -> bool {
+        !self.relay.is_first
     }
 
     fn close_receivers(&mut self, rt: &R, alloc: Global) {
+        self.state.ports.shut();
         spool_away(self.relay);
-        answer_while_closing(rt, alloc, self.listener, self.relay, self.controls);
+        answer_while_closing(
+            rt,
+            alloc,
+            &mut self.state.ports.admin,
+            self.relay,
+            self.controls,
+        );
     }
 
     fn stop_datagrams(&self) {
@@ -104,7 +277,7 @@ impl<B: Set, R: Wait + Clock + Net, W: Write> FirstThread<R> for AdminPort<'_, B
     fn drain(&mut self, rt: &R, alloc: Global) {
         let relay = self.relay;
         if let Some(end) = relay.state.end() {
-            answer_while_draining(rt, alloc, self.listener, relay, end);
+            answer_while_draining(rt, alloc, &mut self.state.ports.admin, relay, end);
         }
     }
 
@@ -114,19 +287,33 @@ impl<B: Set, R: Wait + Clock + Net, W: Write> FirstThread<R> for AdminPort<'_, B
             if end.is_spooled() {
                 relay.state.signals().begin_spooling();
                 relay.gate.wake_all();
-                answer_while_spooling(rt, alloc, self.listener, relay, end);
+                answer_while_spooling(rt, alloc, &mut self.state.ports.admin, relay, end);
             }
         }
     }
 
     fn wake_senders(&self) {
         self.relay.gate.wake_all();
+        self.relay.gone_gate.wake_all();
+    }
+
+    fn keep_watchers(&mut self, log: Option<LogEnd<L>>, server: Option<StatusServer>) {
+        self.state.log = log;
+        self.state.server = server;
     }
 }
 
 /// What remains to be sent by a relay with this end.
 fn unsent_of<'x, B: Set>(relay: &'x Relay<B>, end: &'x EndState) -> Unsent<'x, B> {
-    Unsent::new(&relay.queues, relay.shape.dests, relay.noted().notes, end)
+    Unsent::new(&relay.queues, relay.noted(), end)
+}
+
+/// Refuses a reload, if a connection has asked for one: a relay that stops takes no new configuration.
+fn refuse_reload(alloc: Global, listener: &mut AdminListener, millis: u64) {
+    if let Some(asked) = listener.next_reload(alloc) {
+        listener.refuse_reload(asked.connection, millis);
+        drop(asked);
+    }
 }
 
 /// If files keep what is not sent, has the senders begin with the files of destinations that are not connected. So most of what
@@ -151,24 +338,6 @@ fn away_of<B: Set>(relay: &Relay<B>) -> u64 {
     away
 }
 
-/// Answers commands until one is `stop`.
-fn answer_until_stopped<R: Wait + Clock + Net, B: Set>(
-    rt: &R,
-    alloc: Global,
-    listener: &mut AdminListener,
-    relay: &Relay<B>,
-) {
-    let watched = ReportSource::new(relay);
-    let times = SystemTimes::new(rt);
-    for _ in rt.forever() {
-        let millis = times.millis();
-        if listener.take_turn(rt, alloc, &watched, millis, PAUSE_MS) {
-            return;
-        }
-    }
-    unreachable!()
-}
-
 /// Answers commands while the receivers close: they read what was sent to them, for half a second at most.
 fn answer_while_closing<R: Wait + Clock + Net, B: Set>(
     rt: &R,
@@ -178,7 +347,7 @@ fn answer_while_closing<R: Wait + Clock + Net, B: Set>(
     controls: &[Arc<ReceiverControl>],
 ) {
     let watched = ReportSource::new(relay);
-    let times = SystemTimes::new(rt);
+    let times = SystemTimes::since(rt, relay.began);
     let mut closing = ClosingWait::begin(controls, times.millis());
     for _ in rt.forever() {
         let millis = times.millis();
@@ -186,6 +355,7 @@ fn answer_while_closing<R: Wait + Clock + Net, B: Set>(
             return;
         }
         let _is_stopped = listener.take_turn(rt, alloc, &watched, millis, CLOSING_PAUSE_MS);
+        refuse_reload(alloc, listener, millis);
     }
     unreachable!()
 }
@@ -201,14 +371,16 @@ fn answer_while_draining<R: Wait + Clock + Net, B: Set>(
     let watched = ReportSource::new(relay);
     let unsent = unsent_of(relay, end);
     let signals = relay.state.signals();
-    let times = SystemTimes::new(rt);
+    let times = SystemTimes::since(rt, relay.began);
     let mut drain = Drain::new(times.millis(), end.drain_seconds());
     for _ in rt.forever() {
         let millis = times.millis();
-        if drain.look(rt, &unsent, signals, millis) {
+        let is_over = drain.look(rt, &unsent, signals, millis);
+        if is_over && !relay.gone.are_sent_to(millis) {
             return;
         }
         let _is_stopped = listener.take_turn(rt, alloc, &watched, millis, DRAIN_PAUSE_MS);
+        refuse_reload(alloc, listener, millis);
     }
     unreachable!()
 }
@@ -223,7 +395,7 @@ fn answer_while_spooling<R: Wait + Clock + Net, B: Set>(
 ) {
     let watched = ReportSource::new(relay);
     let unsent = unsent_of(relay, end);
-    let times = SystemTimes::new(rt);
+    let times = SystemTimes::since(rt, relay.began);
     let mut wait = SpoolWait::new(times.millis());
     for _ in rt.forever() {
         let millis = times.millis();
@@ -231,6 +403,7 @@ fn answer_while_spooling<R: Wait + Clock + Net, B: Set>(
             return;
         }
         let _is_stopped = listener.take_turn(rt, alloc, &watched, millis, SPOOL_PAUSE_MS);
+        refuse_reload(alloc, listener, millis);
     }
     unreachable!()
 }

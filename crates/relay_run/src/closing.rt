@@ -3,15 +3,16 @@
 ghost use Rattle.std.specs.Prelude.{◌≡◌, ◌≤◌, length, None, IfOk, IfErr};
 ghost use Rattle.std.specs.Io.KnownBytes.{Appends};
 ghost use Rattle.std.specs.String.{string_bytes};
-ghost use Rattle.relay_run.specs.Closing.{closing_line, differs_line, closing_status, input_fault, output_fault};
+ghost use Rattle.relay_run.specs.Closing.{closing_line, ended_line, differs_line, closing_status, input_fault, output_fault};
 ghost use Rattle.relay_run.specs.Running.{ClosesWith};
 
-use finished_run::{FinishedRun, Recorder};
+use finished_run::{FinishedRun, Recorder, RunPlace};
 use locked_queues::{SettleFault, Settled};
 use mio_loops::ReadinessFault;
 use relay_base::{LARGEST_MESSAGE, LARGEST_QUEUE_SIZE, NoMemory};
 use relay_files::{RelayFault, Status, write_out};
 use std::alloc::Global;
+use std::fmt::Write as _;
 use std::io::Write;
 
 /// Writes what a run leaves whose threads had this fault, if any: the line that says how it settled, and what its recorder, if
@@ -21,7 +22,7 @@ pub(crate) fn write_end<W: Write, K: Recorder>(
     run: &FinishedRun<'_>,
     fault: Option<RelayFault>,
     output: &mut W,
-    recorder: Option<K>,
+    recorder: &mut Option<K>,
 ) -> Result<Status, RelayFault>
     requires dests { length run.now.configuration.now.settings.routing.destinations
         ≡ run.now.shape.dests }
@@ -35,9 +36,28 @@ pub(crate) fn write_end<W: Write, K: Recorder>(
 {
     let ended = close_run(alloc, run.settled, fault, output);
     if let Some(recorder) = recorder {
-        recorder.take(alloc, run);
+        recorder.take(alloc, RunPlace::Last, run);
     }
     ended
+}
+
+/// The lines of the log on a run that another one follows: how it settled, and the fault of a thread, if one had a fault.
+pub(crate) fn closing_text(
+    alloc: Global,
+    number: u64,
+    settled: &Result<Settled, SettleFault>,
+    fault: Option<RelayFault>,
+) -> Result<String, NoMemory>
+    ensures line { fault ≡ None → IfOk result (λ text.
+        string_bytes text ≡ ended_line number settled.now) }
+{
+    let line = closing_line(alloc, settled)?;
+    let mut text = format!(in alloc; "run {number}: {line}")?;
+    drop(line);
+    if let Some(fault) = fault {
+        write!(text, "run {number}: {fault}\n")?;
+    }
+    Ok(text)
 }
 
 /// Closes a run: writes the line that says how it settled, and returns its status, or the fault of a thread if one had

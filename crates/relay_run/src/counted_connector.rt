@@ -3,10 +3,10 @@ ghost use Rattle.std.specs.Prelude.{◌≡◌, ◌==◌, IfErr, count_by};
 ghost use Rattle.relay_base.specs.Ascii.{newline};
 
 use memchr::memchr_iter;
-use mio_loops::ReadinessFault;
+use mio_loops::{LeftWriter, ReadinessFault};
 use relay_base::{DestId, MOST_DESTINATIONS};
 use run_state::{BeginNote, EndState};
-use senders::Connect;
+use senders::{Connect, KeptSocket};
 use std::io;
 use std::io::Write;
 use std::sync::atomic::{AtomicU64, Ordering};
@@ -86,6 +86,38 @@ impl<'c, 's, N: Connect> Connect for CountedConnector<'c, 's, N> {
         self.connector.has_closed(dest)
     }
 
+    fn hands_over(&self) -> bool {
+        self.connector.hands_over()
+    }
+
+    fn hand_over(&mut self, dest: DestId, left: LeftWriter<CountedSink<'c, N::Sink>>) {
+        let LeftWriter {
+            limit,
+            writer,
+            lent,
+            sink,
+        } = left;
+        let sink = match sink {
+            Some(sink) => Some(sink.into_sink()),
+            None => None,
+        };
+        let left = LeftWriter {
+            limit,
+            writer,
+            lent,
+            sink,
+        };
+        self.connector.hand_over(dest, left);
+    }
+
+    fn take_back(&mut self, dest: DestId, sink: CountedSink<'c, N::Sink>) -> Option<KeptSocket> {
+        self.connector.take_back(dest, sink.into_sink())
+    }
+
+    fn end(&mut self) {
+        self.connector.end();
+    }
+
     fn end_writes(&mut self) {
         self.connector.end_writes();
     }
@@ -110,6 +142,14 @@ fn all_destinations() -> [DestId; MOST_DESTINATIONS] {
 pub(crate) struct CountedSink<'c, W> {
     sink: W,
     taken: Option<&'c AtomicU64>,
+}
+
+impl<W> CountedSink<'_, W> {
+    /// The connection alone.
+    fn into_sink(self) -> W {
+        let CountedSink { sink, taken: _ } = self;
+        sink
+    }
 }
 
 impl<W: Write> Write for CountedSink<'_, W> {

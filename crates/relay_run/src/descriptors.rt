@@ -98,16 +98,15 @@ fn take_descriptors<R: Net>(rt: &R, most: usize, taken: &mut Vec<Poll>) -> Resul
     Ok(())
 }
 
-/// Limits how many connections the receivers hold together, so that those descriptors are left that the relay needs for
-/// all else. If all connections that the receivers may hold leave enough, it limits nothing. Refuses (`Listen` of the
-/// admin port) fewer than [`descriptors_needed`]: the relay could be deaf then, or not be stopped.
-pub(crate) fn keep_descriptors<R: Net>(
+/// The room that limits how many connections the receivers hold together, so that those descriptors are left that the relay
+/// needs for all else. If all connections that the receivers may hold leave enough, nothing is limited. Refuses (`Listen` of
+/// the admin port) fewer than [`descriptors_needed`]: the relay could be deaf then, or not be stopped.
+pub(crate) fn room_of<R: Net>(
     rt: &R,
     alloc: Global,
     settings: &Settings,
     options: RunOptions,
-    bound: &mut [BoundPort],
-) -> Result<(), RelayFault>
+) -> Result<Option<Arc<ConnectionRoom>>, RelayFault>
     ensures { IfErr result (λ fault. is_start_fault fault ≡ true) }
 {
     let uses = Uses::of(settings, options);
@@ -118,17 +117,23 @@ pub(crate) fn keep_descriptors<R: Net>(
         });
     }
     if free < uses.most() {
-        limit_connections(alloc, bound, free.saturating_sub(uses.own()))?;
+        let room = ConnectionRoom::new(free.saturating_sub(uses.own()));
+        return match Arc::new(alloc, room) {
+            Ok(room) => Ok(Some(room)),
+            Err(_) => Err(RelayFault::NoMemory),
+        };
     }
-    Ok(())
+    Ok(None)
 }
 
-/// Gives the receivers of connections a room of this many, which they share.
-fn limit_connections(alloc: Global, bound: &mut [BoundPort], count: usize) -> Result<(), NoMemory> {
-    let room = Arc::new(alloc, ConnectionRoom::new(count))?;
+/// Gives the receivers of connections this room, which they share.
+pub(crate) fn share_room(
+    room: &Arc<ConnectionRoom>,
+    bound: &mut [BoundPort],
+) -> Result<(), NoMemory> {
     for bound in bound.iter_mut() {
         if let BoundPort::Lines(port, _) | BoundPort::Pickles(port) = bound {
-            port.set_room(Arc::try_clone(&room)?);
+            port.set_room(Arc::try_clone(room)?);
         }
     }
     Ok(())

@@ -1,5 +1,7 @@
 //! How a run ends once the first thread has served: the receivers, of datagrams last, then the senders, at last those that
 //! watch.
+//!
+//! If another run follows, nothing is closed and nothing is waited for: what the threads hold goes on there.
 
 ghost use Rattle.std.specs.Prelude.{◌≡◌, ◌⊎◌, Err, if◌then◌else◌};
 
@@ -16,8 +18,7 @@ use std::rt::Clock;
 use std::sync::Wait;
 use std::thread::{JoinHandle, Threads};
 
-/// How the threads ended, the receivers and the senders in order, and whether the run went on until it was
-/// stopped.
+/// How the threads ended, the receivers and the senders in order, and whether the run went on until it was to end.
 #[derive(Drop)]
 pub(crate) struct ThreadEnds {
     pub(crate) receivers: Vec<ThreadEnd<DoorRecord, FedLog>>,
@@ -26,12 +27,17 @@ pub(crate) struct ThreadEnds {
 }
 
 /// Ends the threads, once the first has served in this way: the receivers, then the senders, and at last those that watch
-/// them. What receivers and senders left is kept, or memory ran out.
-pub(crate) fn end_threads<R: Threads + Wait + Clock, M: FirstThread<R>>(
+/// them. What they left is kept, or memory ran out.
+pub(crate) fn end_threads<
+    R: Threads + Wait + Clock,
+    O: Send + Drop,
+    S: Send + Drop,
+    M: FirstThread<R, O, S>,
+>(
     rt: &R,
     alloc: Global,
     signals: &Signals,
-    started: StartedThreads,
+    started: StartedThreads<O, S>,
     served: Result<(), RelayFault>,
     first: &mut M,
 ) -> ThreadEnds
@@ -42,19 +48,35 @@ pub(crate) fn end_threads<R: Threads + Wait + Clock, M: FirstThread<R>>(
     let StartedThreads {
         receivers,
         senders,
-        watchers,
+        parting,
+        logs,
+        servers,
         ..
     } = started;
-    close_if(rt, alloc, served.is_ok(), first);
+    let is_last = served.is_ok() && !first.is_followed();
+    // What a run inherited that could not begin is not lost either.
+    let is_handing = first.is_followed() || served.is_err() && first.follows();
+    let server = end_server(rt, signals, servers, is_handing);
+    close_if(rt, alloc, is_last, first);
+    if is_handing {
+        // No port is shut: its receiver ends with the others.
+        first.stop_datagrams();
+    }
     let (receivers, are_kept) = end_receivers(rt, alloc, signals, receivers, first);
     let served = served_if(are_kept, served);
-    send_rest_if(rt, alloc, served.is_ok(), first);
+    send_rest_if(rt, alloc, is_last && served.is_ok(), first);
     signals.stop_senders();
     first.wake_senders();
     let (senders, are_kept) = join_all(rt, alloc, senders);
     let served = served_if(are_kept, served);
+    let _ends = join_all(rt, alloc, parting);
     signals.stop_watchers();
-    let _ends = join_all(rt, alloc, watchers);
+    let log = join_last(rt, logs);
+    let server = match server {
+        ServerEnd::Ended(server) => server,
+        ServerEnd::Runs(servers) => join_last(rt, servers),
+    };
+    first.keep_watchers(log, server);
     ThreadEnds {
         receivers,
         senders,
@@ -62,9 +84,41 @@ pub(crate) fn end_threads<R: Threads + Wait + Clock, M: FirstThread<R>>(
     }
 }
 
+/// The status server, if there is one, or its thread, which goes on.
+#[derive(Drop)]
+enum ServerEnd<S> {
+    Ended(Option<S>),
+    Runs(Vec<JoinHandle<S>>),
+}
+
+/// If another run follows, says so to the threads, and ends that of the status server: it takes some milliseconds, in which the
+/// others go on.
+fn end_server<R: Threads + Wait, S: Send + Drop>(
+    rt: &R,
+    signals: &Signals,
+    servers: Vec<JoinHandle<S>>,
+    is_handing: bool,
+) -> ServerEnd<S> {
+    if !is_handing {
+        return ServerEnd::Runs(servers);
+    }
+    signals.begin_handing();
+    signals.stop_status();
+    ServerEnd::Ended(join_last(rt, servers))
+}
+
+/// Joins the thread of a list that has one at most. Returns how it ended.
+fn join_last<R: Threads + Wait, T: Send + Drop>(rt: &R, children: Vec<JoinHandle<T>>) -> Option<T> {
+    let mut end = None;
+    for child in children {
+        end = Some(child.join(rt));
+    }
+    end
+}
+
 /// Ends the receivers: those of connections, and once they have ended the one of datagrams. If there is one, it is the last.
 /// Returns how they ended, in order, and whether there was memory to keep all of that.
-fn end_receivers<R: Threads + Wait + Clock, M: FirstThread<R>>(
+fn end_receivers<R: Threads + Wait + Clock, O, S, M: FirstThread<R, O, S>>(
     rt: &R,
     alloc: Global,
     signals: &Signals,
@@ -84,8 +138,8 @@ fn end_receivers<R: Threads + Wait + Clock, M: FirstThread<R>>(
     (ends, are_kept)
 }
 
-/// Closes the receivers if the run went on until it was stopped.
-fn close_if<R: Wait + Clock, M: FirstThread<R>>(
+/// Closes the receivers if the run went on until it was stopped, and none follows.
+fn close_if<R: Wait + Clock, O, S, M: FirstThread<R, O, S>>(
     rt: &R,
     alloc: Global,
     is_served: bool,
@@ -99,8 +153,9 @@ fn close_if<R: Wait + Clock, M: FirstThread<R>>(
     }
 }
 
-/// If the run went on until it was stopped, lets the senders send what is left, and write to files what is left then.
-fn send_rest_if<R: Wait + Clock, M: FirstThread<R>>(
+/// If the run went on until it was stopped, and none follows, lets the senders send what is left, and write to files what is
+/// left then.
+fn send_rest_if<R: Wait + Clock, O, S, M: FirstThread<R, O, S>>(
     rt: &R,
     alloc: Global,
     is_served: bool,

@@ -4,7 +4,7 @@ ghost use Rattle.std.specs.Prelude.{◌≡◌, true, IfErr};
 ghost use Rattle.relay_run.specs.Running.{is_start_fault};
 
 use crate::datagram_room::ask_for_room;
-use crate::descriptors::keep_descriptors;
+use crate::descriptors::{room_of, share_room};
 use crate::options::{RunOptions, StatusOptions};
 use admin_port::AdminListener;
 use conf_text::Settings;
@@ -13,9 +13,11 @@ use mio_loops::ReadinessFault;
 use receivers::StreamPort;
 use relay_base::{MOST_LINE_RECEIVERS, add};
 use relay_files::{ListenRole, RelayFault};
+use relay_watchers::StatusServer;
 use status_server::StatusListener;
 use std::alloc::Global;
 use std::net::{IpAddr, Ipv4Addr, Net, SocketAddr};
+use std::{io, net};
 
 /// A port that was bound, by what it receives.
 #[derive(Drop)]
@@ -25,7 +27,27 @@ pub(crate) enum BoundPort {
     /// Connections of pickles.
     Pickles(StreamPort),
     /// Datagrams of lines.
-    Datagrams(UdpSocket),
+    Datagrams(net::UdpSocket),
+}
+
+impl BoundPort {
+    /// Another one of the same port. Refuses what the system refuses.
+    fn try_clone(&self) -> io::Result<BoundPort> {
+        match self {
+            BoundPort::Lines(port, name) => Ok(BoundPort::Lines(port.try_clone()?, *name)),
+            BoundPort::Pickles(port) => Ok(BoundPort::Pickles(port.try_clone()?)),
+            BoundPort::Datagrams(socket) => Ok(BoundPort::Datagrams(socket.try_clone()?)),
+        }
+    }
+
+    /// What it is for.
+    fn role(&self) -> ListenRole {
+        match self {
+            BoundPort::Lines(..) => ListenRole::Line,
+            BoundPort::Pickles(_) => ListenRole::Pickle,
+            BoundPort::Datagrams(_) => ListenRole::Udp,
+        }
+    }
 }
 
 /// The names of receivers that share the port of lines.
@@ -33,12 +55,61 @@ const LINE_NAMES: [&str; MOST_LINE_RECEIVERS] = [
     "line 0", "line 1", "line 2", "line 3", "line 4", "line 5",
 ];
 
-/// What was bound: the ports of receivers, the admin port, and the listener of the status server, if there is one.
+/// What was bound: the ports of receivers, those that the first thread keeps, and the status server, if there is one.
 #[derive(Drop)]
 pub(crate) struct Ports {
     pub(crate) receivers: Vec<BoundPort>,
+    pub(crate) first: FirstPorts,
+    pub(crate) status: Option<StatusServer>,
+}
+
+/// The ports that the first thread keeps from one run to the next: that of commands, and another of each port of receivers, so
+/// that these stay open between two runs.
+#[derive(Drop)]
+pub(crate) struct FirstPorts {
     pub(crate) admin: AdminListener,
-    pub(crate) status: Option<StatusListener>,
+    pub(crate) kept: Vec<BoundPort>,
+}
+
+impl FirstPorts {
+    /// The ports of the receivers of one more run. Refuses (`Listen`) if the system does, and `NoMemory` if out of memory.
+    pub(crate) fn for_receivers(&self, alloc: Global) -> Result<Vec<BoundPort>, RelayFault>
+        ensures { IfErr result (λ fault. is_start_fault fault ≡ true) }
+    {
+        clones_of(alloc, self.kept.as_slice())
+    }
+
+    /// So many stores had a descriptor, and from now on so many have: producers get the others, if their number is limited.
+    pub(crate) fn keep_for_stores(&self, before: usize, now: usize) {
+        // All ports share one room.
+        for port in &self.kept {
+            if let BoundPort::Lines(port, _) | BoundPort::Pickles(port) = port {
+                if let Some(room) = port.room() {
+                    room.keep_for_others(before, now);
+                    return;
+                }
+            }
+        }
+    }
+
+    /// The ports of receivers end with those of the run.
+    pub(crate) fn shut(&mut self) {
+        self.kept.clear();
+    }
+}
+
+/// Another one of each of these ports.
+fn clones_of(alloc: Global, ports: &[BoundPort]) -> Result<Vec<BoundPort>, RelayFault>
+    ensures { IfErr result (λ fault. is_start_fault fault ≡ true) }
+{
+    let mut clones = Vec::new(alloc);
+    for port in ports {
+        match port.try_clone() {
+            Ok(clone) => add(&mut clones, clone)?,
+            Err(_) => return Err(RelayFault::Listen { role: port.role() }),
+        }
+    }
+    Ok(clones)
 }
 
 /// Binds the ports of receivers, the admin port and the port of the status server, in this order. Refuses (`Listen`) the
@@ -56,7 +127,10 @@ pub(crate) fn bind_all<R: Net>(
     let admin = watch_admin(rt, alloc, options.admin())?;
     let mut ports = Ports {
         receivers,
-        admin,
+        first: FirstPorts {
+            admin,
+            kept: Vec::new(alloc),
+        },
         status: None,
     };
     match bind_last(rt, alloc, settings, options, &mut ports) {
@@ -68,7 +142,7 @@ pub(crate) fn bind_all<R: Net>(
     }
 }
 
-/// Binds the port of the status server, the last, and limits the receivers of all.
+/// Binds the port of the status server, the last, keeps the ports of the receivers open, and limits the receivers of all.
 fn bind_last<R: Net>(
     rt: &R,
     alloc: Global,
@@ -79,7 +153,12 @@ fn bind_last<R: Net>(
     ensures { IfErr result (λ fault. is_start_fault fault ≡ true) }
 {
     ports.status = bind_status(rt, alloc, options.status())?;
-    keep_descriptors(rt, alloc, settings, options, ports.receivers.as_mut_slice())
+    ports.first.kept = clones_of(alloc, ports.receivers.as_slice())?;
+    let Some(room) = room_of(rt, alloc, settings, options)? else {
+        return Ok(());
+    };
+    share_room(&room, ports.receivers.as_mut_slice())?;
+    Ok(share_room(&room, ports.first.kept.as_mut_slice())?)
 }
 
 /// Binds the ports of the settings that are enabled, in the order lines, pickles, datagrams: a port of 0 is not
@@ -100,7 +179,10 @@ fn bind_receivers<R: Net>(
     let port = settings.udp_receiver_port();
     if settings.enable_udp_listener() && port > 0 {
         let socket = bind_datagrams(rt, settings.udp_receiver_interface(), port)?;
-        add(&mut bound, BoundPort::Datagrams(socket))?;
+        add(
+            &mut bound,
+            BoundPort::Datagrams(net::UdpSocket::from(socket)),
+        )?;
     }
     Ok(bound)
 }
@@ -204,7 +286,7 @@ fn bind_status<R: Net>(
     rt: &R,
     alloc: Global,
     status: Option<StatusOptions>,
-) -> Result<Option<StatusListener>, RelayFault>
+) -> Result<Option<StatusServer>, RelayFault>
     ensures { IfErr result (λ fault. is_start_fault fault ≡ true) }
 {
     let Some(options) = status else {
@@ -215,7 +297,7 @@ fn bind_status<R: Net>(
         return Err(RelayFault::Listen { role });
     };
     match StatusListener::new(rt, alloc, listener, options.address.ip()) {
-        Ok(listener) => Ok(Some(listener)),
+        Ok(listener) => Ok(Some(StatusServer::new(alloc, listener))),
         Err(fault) => Err(watch_fault(fault, role)),
     }
 }

@@ -16,8 +16,8 @@ use mio::net::UdpSocket;
 use mio_loops::{InputLog, ReadinessFault, SystemTimes};
 use reader_core::ReaderKind;
 use receivers::{
-    DatagramSocket, ReceiverControl, ReceiverRecord, StreamListener, receive_datagrams,
-    receive_streams,
+    DatagramSocket, HandedStreams, ReceiverControl, ReceiverRecord, StreamListener,
+    receive_datagrams, receive_streams,
 };
 use relay_base::NoMemory;
 use relay_files::{ListenRole, RelayFault, RunConfiguration};
@@ -29,6 +29,7 @@ use std::alloc::{AllocError, Global};
 use std::net::Net;
 use std::rt::Clock;
 use std::sync::{Arc, Wait};
+use std::time::Instant;
 
 /// The source of a receiver's datapoints.
 #[derive(Drop)]
@@ -63,7 +64,11 @@ impl Inlet {
                     Err(fault) => Err(listen_fault(ListenRole::Pickle, fault)),
                 }
             }
-            BoundPort::Datagrams(socket) => match datagrams_of(rt, alloc, socket) {
+            BoundPort::Datagrams(socket) => match datagrams_of(
+                rt,
+                alloc,
+                UdpSocket::from_std(socket),
+            ) {
                 Ok(socket) => Ok(Inlet::Datagrams(socket)),
                 Err(fault) => Err(listen_fault(ListenRole::Udp, fault)),
             },
@@ -94,6 +99,17 @@ impl Inlet {
             Inlet::Lines(listener, _) | Inlet::Pickles(listener) => listener.set_idle(seconds),
             Inlet::Datagrams(_) => {}
         }
+    }
+
+    /// The connections that the receiver of an ended run handed over come first; and those that it holds go there if another
+    /// run follows.
+    pub(crate) fn set_handed(&mut self, handed: &Arc<HandedStreams>) -> Result<(), NoMemory> {
+        let handed = Arc::clone(handed)?;
+        match self {
+            Inlet::Lines(listener, _) | Inlet::Pickles(listener) => listener.set_handed(handed),
+            Inlet::Datagrams(_) => drop(handed),
+        }
+        Ok(())
     }
 
     /// What closes and wakes the receiver. Refuses if out of memory.
@@ -168,6 +184,7 @@ pub(crate) struct ReceiverJob<'d, B: Set, R: Wait> {
     share: Share<'d>,
     orders: &'d EndOrders,
     is_recorded: bool,
+    began: Option<Instant>,
     ghost few: { receiver < 8 },
     ghost dests: { length configuration.now.settings.routing.destinations
         ≤ length door.made.totals },
@@ -183,6 +200,7 @@ impl<'d, B: Set, R: Wait> ReceiverJob<'d, B, R> {
         door: LockedDoor<'d, B, R, WakeGate>,
         share: Share<'d>,
         orders: &'d EndOrders,
+        began: Option<Instant>,
     ) -> ReceiverJob<'d, B, R>
         requires few { receiver < MOST_RECEIVERS }
         requires dests { length configuration.now.settings.routing.destinations
@@ -196,6 +214,7 @@ impl<'d, B: Set, R: Wait> ReceiverJob<'d, B, R> {
             share,
             orders,
             is_recorded: false,
+            began,
         }
     }
 
@@ -283,8 +302,10 @@ fn receive_by_plan<'d, B: Set, R: Wait + Clock>(
         door,
         share,
         orders,
+        began,
         ..
     } = job;
+    let times = SystemTimes::since(rt, began);
     match inlet {
         Inlet::Lines(listener, _) => receive_connections(
             rt,
@@ -296,6 +317,7 @@ fn receive_by_plan<'d, B: Set, R: Wait + Clock>(
             receiver,
             plan,
             door,
+            &times,
         ),
         Inlet::Pickles(listener) => receive_connections(
             rt,
@@ -307,10 +329,10 @@ fn receive_by_plan<'d, B: Set, R: Wait + Clock>(
             receiver,
             plan,
             door,
+            &times,
         ),
         Inlet::Datagrams(socket) => {
             let socket = ReadyDatagrams::new(socket, BeginNote::new(signals));
-            let times = SystemTimes::new(rt);
             let stop = orders.datagrams();
             receive_datagrams(rt, alloc, socket, receiver, plan, door, &times, stop)
         }
@@ -328,16 +350,14 @@ fn receive_connections<'d, B: Set, R: Wait + Clock>(
     receiver: usize,
     plan: Plan,
     door: LockedDoor<'d, B, R, WakeGate>,
+    times: &SystemTimes<'_, R>,
 ) -> ReceiverRecord<LockedDoor<'d, B, R, WakeGate>>
     requires few { receiver < MOST_RECEIVERS }
     requires dests { plan.destinations ≤ length door.made.totals }
 {
     let listener = SharedListener::new(listener, share, BeginNote::new(signals));
-    let times = SystemTimes::new(rt);
     let stop = signals.receivers();
-    receive_streams(
-        rt, alloc, listener, kind, receiver, plan, door, &times, stop,
-    )
+    receive_streams(rt, alloc, listener, kind, receiver, plan, door, times, stop)
 }
 
 /// The log of readers of a kind, if the run is recorded.

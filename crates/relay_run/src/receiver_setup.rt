@@ -10,7 +10,7 @@ use crate::shared_listener::Share;
 use crate::thread_jobs::{JobMaker, ThreadJobs};
 use locked_queues::{DoorRecord, DoorSeat, LockedDoor, MOST_RECEIVERS, Set};
 use log_lines::ReceiverNotes;
-use receivers::ReceiverControl;
+use receivers::{HandedStreams, ReceiverControl};
 use relay_base::{NoMemory, add};
 use relay_files::RelayFault;
 use relay_watchers::ReceiverLog;
@@ -80,7 +80,7 @@ fn add_receiver<'x, B: Set, R: RelayRuntime, L>(
     ensures { IfErr result (λ fault. is_start_fault fault ≡ true) }
 {
     let ThreadJobs { jobs, controls, .. } = made;
-    match noted_inlet(maker, port, notes, logs, controls) {
+    match noted_inlet(maker, port, receiver, notes, logs, controls) {
         Ok(inlet) => {
             let job = receiver_job(maker, inlet, receiver, seat);
             Ok(add(&mut jobs.receiving, job)?)
@@ -96,6 +96,7 @@ fn add_receiver<'x, B: Set, R: RelayRuntime, L>(
 fn noted_inlet<B: Set, R: RelayRuntime>(
     maker: &JobMaker<'_, B, R>,
     port: BoundPort,
+    receiver: usize,
     notes: &Arc<ReceiverNotes>,
     logs: &mut Vec<ReceiverLog>,
     controls: &mut Vec<Arc<ReceiverControl>>,
@@ -104,7 +105,8 @@ fn noted_inlet<B: Set, R: RelayRuntime>(
 {
     let mut inlet = Inlet::new(maker.rt, maker.alloc, port)?;
     inlet.set_idle(maker.relay.shape.idle_seconds);
-    match add_noted(&mut inlet, notes, logs, controls) {
+    let handed = maker.relay.streams.get(receiver);
+    match add_noted(&mut inlet, handed, notes, logs, controls) {
         Ok(()) => Ok(inlet),
         Err(_) => {
             drop(inlet);
@@ -113,15 +115,20 @@ fn noted_inlet<B: Set, R: RelayRuntime>(
     }
 }
 
-/// Adds where the events of an inlet are noted, and what closes and wakes its receiver.
+/// Adds where the events of an inlet are noted, and what closes and wakes its receiver. Its connections are handed over here.
 fn add_noted(
     inlet: &mut Inlet,
+    handed: Option<&Arc<HandedStreams>>,
     notes: &Arc<ReceiverNotes>,
     logs: &mut Vec<ReceiverLog>,
     controls: &mut Vec<Arc<ReceiverControl>>,
 ) -> Result<(), NoMemory> {
     add(logs, inlet.set_notes(notes)?)?;
-    add(controls, inlet.control()?)
+    add(controls, inlet.control()?)?;
+    match handed {
+        Some(handed) => inlet.set_handed(handed),
+        None => Ok(()),
+    }
 }
 
 /// The receiver of this number, with its inlet and the door of its seat.
@@ -146,6 +153,7 @@ fn receiver_job<'x, B: Set, R: RelayRuntime>(
         door,
         share,
         &relay.orders,
+        relay.began,
     );
     job.set_recorded(relay.shape.is_recorded);
     job

@@ -3,29 +3,37 @@
 ghost use Rattle.std.specs.Prelude.{◌≡◌, ◌≤◌, true, length, IfErr};
 ghost use Rattle.relay_run.specs.Running.{is_start_fault};
 
+use crate::dest_slots::DestSlots;
 use crate::end_orders::EndOrders;
-use crate::listeners::{BoundPort, Ports};
+use crate::gone_dests::GoneDests;
+use crate::inherited::Inherited;
+use crate::listeners::{BoundPort, FirstPorts, Ports};
 use crate::sender_setup::{alarms_of, watches_of};
 use crate::shape::Shape;
-use crate::spool_folder::RunSpool;
-use crate::start::Start;
-use admin_port::AdminListener;
+use crate::start::{Process, Start};
 use finished_run::{FinishedRun, ThreadLogs};
-use locked_queues::{DoorSeat, Opened, OutletSeat, Queues, Set, SettleFault, Settled};
+use locked_queues::{
+    DoorSeat, MOST_RECEIVERS, Opened, OutletSeat, Queues, Set, SettleFault, Settled,
+};
 use mio_loops::Readiness;
-use relay_base::{LARGEST_MESSAGE, LARGEST_QUEUE_SIZE};
+use receivers::HandedStreams;
+use relay_base::{LARGEST_MESSAGE, LARGEST_QUEUE_SIZE, MOST_DESTINATIONS};
 use relay_files::{RelayFault, RunConfiguration};
+use relay_watchers::{LateNews, ReceiverLog, StatusServer};
 use run_state::{DestSources, RunState};
 use senders::WakeGate;
-use status_server::StatusListener;
 use std::alloc::Global;
 use std::net::Net;
+use std::sync::Arc;
+use std::time::Instant;
 
 /// The name of the set of queues; a run has one.
 pub(crate) const NAME: u64 = 1;
 
 /// What a run is made of, and its threads borrow: its configuration and its numbers, its queues, the gate that wakes the
-/// senders, what the threads share beside these, and what some are told at the end.
+/// senders, and what the threads share beside these; what some of them are told at the end; what is left for destinations
+/// between two runs, and for those that are gone, with what wakes their sender; the connections that go from one run to the
+/// next; and what the first thread has for the log.
 #[derive(Drop)]
 pub(crate) struct Relay<B: Set> {
     pub(crate) configuration: RunConfiguration,
@@ -34,31 +42,43 @@ pub(crate) struct Relay<B: Set> {
     pub(crate) gate: WakeGate,
     pub(crate) state: RunState,
     pub(crate) orders: EndOrders,
+    pub(crate) slots: DestSlots,
+    pub(crate) gone: GoneDests,
+    pub(crate) gone_gate: WakeGate,
+    pub(crate) streams: Vec<Arc<HandedStreams>>,
+    pub(crate) late_news: LateNews,
+    // Since when its milliseconds count, whether no run was before, and the system's limit for the size of a file.
+    pub(crate) began: Option<Instant>,
+    pub(crate) is_first: bool,
+    pub(crate) file_limit: Option<u64>,
     ghost dests: { (shape.dests ≡ B.dests) × (1 ≤ shape.dests) × (shape.dests ≤ 64) },
     ghost all: { length configuration.settings.routing.destinations ≡ B.dests },
     ghost size: { (1 ≤ shape.size) × (shape.size ≤ 1000000) },
     ghost limit: { (1 ≤ shape.limit) × (shape.limit ≤ 10000) },
+    ghost readers: { (1 ≤ shape.receivers) × (shape.receivers ≤ 8) },
 }
 
-/// An open relay: what its threads borrow, what each of them is given, and the admin port.
+/// An open relay: what its threads borrow, what each of them is given, and the ports of the first one.
 #[derive(Drop)]
 pub(crate) struct OpenRelay<B: Set, L> {
     pub(crate) relay: Relay<B>,
     pub(crate) parts: Parts<B, L>,
-    pub(crate) admin: AdminListener,
+    pub(crate) ports: FirstPorts,
 }
 
 /// What the threads of a run are given, each its part: the seats at the queues, the ports of receivers, what each sender
-/// waits with, the files of what was not sent, the listener of the status server, if there is one, and the output of the log,
-/// if there is to be one.
+/// waits with, and what that to destinations that are gone does, the status server, if there is one, the output of the log, if
+/// there is to be one, with its first lines, and what it has reported of receivers.
 #[derive(Drop)]
 pub(crate) struct Parts<B: Set, L> {
     pub(crate) seats: Seats<B>,
     pub(crate) receivers: Vec<BoundPort>,
     pub(crate) watches: Vec<Readiness>,
-    pub(crate) spool: RunSpool,
-    pub(crate) status: Option<StatusListener>,
+    pub(crate) gone_watch: Option<Readiness>,
+    pub(crate) status: Option<StatusServer>,
     pub(crate) log: Option<L>,
+    pub(crate) news: String,
+    pub(crate) logged: Vec<ReceiverLog>,
 }
 
 /// The seats of doors and of outlets.
@@ -68,94 +88,81 @@ pub(crate) struct Seats<B: Set> {
     pub(crate) outlets: Vec<OutletSeat<B>>,
 }
 
-/// What a relay has beside its queues: the gate that wakes the senders, what its threads share, and what each sender waits
-/// with.
+/// What a relay has beside its queues: the gate that wakes the senders, what its threads share, what each sender waits with,
+/// and what that to destinations that are gone does.
 #[derive(Drop)]
 struct SharedParts {
     gate: WakeGate,
     state: RunState,
+    gone_gate: WakeGate,
+    gone_watch: Option<Readiness>,
     watches: Vec<Readiness>,
 }
 
+/// Why a relay cannot be opened, and what ended runs left.
+#[derive(Drop)]
+pub(crate) struct RefusedStart {
+    pub(crate) fault: RelayFault,
+    pub(crate) inherited: Inherited,
+}
+
 impl<B: Set> Relay<B> {
-    /// Opens a relay, whose log goes to this output, if it has one. Refuses a fault of the start.
+    /// Opens a relay, whose log goes to this output, if it has one. Refuses a fault of the start, and gives back what ended
+    /// runs left.
     pub(crate) fn open<R: Net, L: Drop>(
         rt: &R,
         alloc: Global,
         start: Start,
         log: Option<L>,
-    ) -> Result<OpenRelay<B, L>, RelayFault>
+        process: &Process<'_>,
+        is_first: bool,
+    ) -> Result<OpenRelay<B, L>, RefusedStart>
         requires table { start.blank ≡ B.table }
         requires name { NAME ≡ B.name }
         requires dests { start.shape.dests ≡ B.dests }
         requires size { start.shape.size ≡ B.size }
         requires receivers { start.shape.receivers ≡ B.receivers }
         requires senders { start.shape.senders ≡ B.senders }
-        ensures { IfErr result (λ fault. is_start_fault fault ≡ true) }
-    {
-        match shared_of(rt, alloc, start.shape) {
-            Ok(shared) => Relay::<B>::open_queues(alloc, start, shared, log),
-            Err(fault) => {
-                drop(start);
-                drop(log);
-                Err(fault)
-            }
-        }
-    }
-
-    /// Opens the queues of a relay that has all else. Refuses if out of memory.
-    fn open_queues<L: Drop>(
-        alloc: Global,
-        start: Start,
-        shared: SharedParts,
-        log: Option<L>,
-    ) -> Result<OpenRelay<B, L>, RelayFault>
-        requires table { start.blank ≡ B.table }
-        requires name { NAME ≡ B.name }
-        requires dests { start.shape.dests ≡ B.dests }
-        requires size { start.shape.size ≡ B.size }
-        requires receivers { start.shape.receivers ≡ B.receivers }
-        requires senders { start.shape.senders ≡ B.senders }
-        ensures { IfErr result (λ fault. is_start_fault fault ≡ true) }
+        ensures { IfErr result (λ refused. is_start_fault refused.fault ≡ true) }
     {
         let Start {
             configuration,
             shape,
             ports,
-            spool,
             blank,
+            inherited,
         } = start;
         let (dests, size) = (shape.dests, shape.size);
         let (receivers, senders) = (shape.receivers, shape.senders);
-        match Queues::<B>::new(alloc, blank, NAME, dests, size, receivers, senders) {
-            Ok(opened) => {
-                let SharedParts {
-                    gate,
-                    state,
-                    watches,
-                } = shared;
-                let Opened {
-                    queues,
-                    doors,
-                    outlets,
-                } = opened;
-                let relay = Relay {
-                    configuration,
-                    shape,
-                    queues,
-                    gate,
-                    state,
-                    orders: EndOrders::new(),
-                };
-                let seats = Seats { doors, outlets };
-                Ok(open_relay(relay, seats, ports, watches, spool, log))
+        let shared = match shared_of(rt, alloc, shape, inherited.gone.are_none()) {
+            Ok(shared) => shared,
+            Err(fault) => {
+                drop(configuration);
+                drop((ports, blank));
+                drop(log);
+                return Err(RefusedStart { fault, inherited });
             }
+        };
+        match Queues::<B>::new(alloc, blank, NAME, dests, size, receivers, senders) {
+            Ok(opened) => Ok(open_relay(
+                configuration,
+                shape,
+                opened,
+                shared,
+                inherited,
+                ports,
+                log,
+                process,
+                is_first,
+            )),
             Err(_) => {
                 drop(configuration);
-                drop((ports, spool));
-                drop(shared);
+                drop((ports, shared));
                 drop(log);
-                Err(RelayFault::NoMemory)
+                Err(RefusedStart {
+                    fault: RelayFault::NoMemory,
+                    inherited,
+                })
             }
         }
     }
@@ -188,44 +195,96 @@ impl<B: Set> Relay<B> {
     }
 }
 
-/// An open relay, whose threads are given these parts of it.
+/// An open relay, with what its threads are given.
 fn open_relay<B: Set, L: Drop>(
-    relay: Relay<B>,
-    seats: Seats<B>,
+    configuration: RunConfiguration,
+    shape: Shape,
+    opened: Opened<B>,
+    shared: SharedParts,
+    inherited: Inherited,
     ports: Ports,
-    watches: Vec<Readiness>,
-    spool: RunSpool,
     log: Option<L>,
-) -> OpenRelay<B, L> {
+    process: &Process<'_>,
+    is_first: bool,
+) -> OpenRelay<B, L>
+    requires dests { (shape.dests ≡ B.dests) × (1 ≤ shape.dests) × (shape.dests ≤ MOST_DESTINATIONS) }
+    requires all { length configuration.settings.routing.destinations ≡ B.dests }
+    requires size { (1 ≤ shape.size) × (shape.size ≤ LARGEST_QUEUE_SIZE) }
+    requires limit { (1 ≤ shape.limit) × (shape.limit ≤ LARGEST_MESSAGE) }
+    requires receivers { (1 ≤ shape.receivers) × (shape.receivers ≤ MOST_RECEIVERS) }
+{
+    let Opened {
+        queues,
+        doors,
+        outlets,
+    } = opened;
+    let SharedParts {
+        gate,
+        state,
+        gone_gate,
+        gone_watch,
+        watches,
+    } = shared;
+    let Inherited {
+        notes,
+        slots,
+        streams,
+        gone,
+        logged,
+        news,
+    } = inherited;
     let Ports {
         receivers,
-        admin,
+        first,
         status,
     } = ports;
     OpenRelay {
-        relay,
+        relay: Relay {
+            configuration,
+            shape,
+            queues,
+            gate,
+            state: state.with_notes(notes),
+            orders: EndOrders::new(),
+            slots,
+            gone,
+            gone_gate,
+            streams,
+            late_news: LateNews::none(),
+            began: process.began,
+            is_first,
+            file_limit: process.file_limit(),
+        },
         parts: Parts {
-            seats,
+            seats: Seats { doors, outlets },
             receivers,
             watches,
-            spool,
+            gone_watch,
             status,
             log,
+            news,
+            logged,
         },
-        admin,
+        ports: first,
     }
 }
 
-/// The gate that wakes the senders of a run of this shape, what its threads share, and the readiness of each sender.
-fn shared_of(rt: &impl Net, alloc: Global, shape: Shape) -> Result<SharedParts, RelayFault>
+/// The gate that wakes the senders of a run of this shape, what its threads share, the readiness of each sender, and that of
+/// the sender to destinations that are gone, if there are such.
+fn shared_of(
+    rt: &impl Net,
+    alloc: Global,
+    shape: Shape,
+    are_none_gone: bool,
+) -> Result<SharedParts, RelayFault>
     ensures { IfErr result (λ fault. is_start_fault fault ≡ true) }
 {
     let watches = watches_of(rt, alloc, shape.senders)?;
     let alarms = alarms_of(alloc, watches.as_slice())?;
+    let (gone_watch, gone_gate) = gone_watch_of(rt, alloc, are_none_gone)?;
     let state = RunState::new(
         alloc,
         shape.dests,
-        shape.receivers,
         shape.line_receivers,
         shape.drain_seconds,
         shape.is_spooled,
@@ -233,6 +292,21 @@ fn shared_of(rt: &impl Net, alloc: Global, shape: Shape) -> Result<SharedParts, 
     Ok(SharedParts {
         gate: WakeGate::new(alarms),
         state,
+        gone_gate,
+        gone_watch,
         watches,
     })
+}
+
+/// What the sender to destinations that are gone waits with, and the gate that wakes it; none if there are none.
+fn gone_watch_of(
+    rt: &impl Net,
+    alloc: Global,
+    are_none: bool,
+) -> Result<(Option<Readiness>, WakeGate), RelayFault>
+    ensures { IfErr result (λ fault. is_start_fault fault ≡ true) }
+{
+    let mut watches = watches_of(rt, alloc, usize::from(!are_none))?;
+    let alarms = alarms_of(alloc, watches.as_slice())?;
+    Ok((watches.pop(), WakeGate::new(alarms)))
 }

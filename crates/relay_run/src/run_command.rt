@@ -1,28 +1,51 @@
 //! `relayd run`: a running relay, from its start to its settling.
 //!
 //! A run has five parts. *Opening* is `Start::new`, which binds the ports, and `Relay::open`, which makes what the threads
-//! share; *running* is `serve_if`, beside the threads that `run_threads` started; *ending* is `end_threads`; *settling* is
-//! `Queues::settle`; and `write_end` writes *what is left*. `run_to_end` has the last four.
+//! share; *running* is `serve_if`, beside the threads that `run_all_threads` started; *ending* is `end_threads`; *settling* is
+//! `Queues::settle`; and `write_end` writes *what is left*. `run_relay` has all but the first of these.
+//!
+//! A reload ends a run, and begins another in the same process, over the same sockets: `run_all` is the loop. `prepared_by`
+//! makes the next run ready while the one before goes on; `ended_of` takes that apart, and `start_after` has what the next
+//! begins with.
 
-ghost use Rattle.std.specs.Prelude.{◌≡◌, ◌≤◌, length, IfOk, IfErr};
+ghost use Rattle.std.specs.Prelude.{◌≡◌, false, IfOk, IfErr, Result};
+ghost use Rattle.std.specs.Io.KnownBytes.{Appends};
+ghost use Rattle.std.specs.Option.{is_none};
+ghost use Rattle.locked_queues.specs.declared.settled.Settled.{Settled};
+ghost use Rattle.locked_queues.specs.declared.settled.SettleFault.{SettleFault};
 ghost use Rattle.relay_files.specs.Files.{AllReadAs};
-ghost use Rattle.relay_run.specs.Running.{RunEnds, RunFails, EndsWithStatus, EndsWithFault};
+ghost use Rattle.relay_run.specs.Closing.{closing_line, closing_status};
+ghost use Rattle.relay_run.specs.Running.{RunEnds, RunFails, RelayFails, ClosesWith, EndsWithStatus, EndsWithFault, opening, ready_line};
+ghost use Rattle.relay_run.specs.RunEnd.{IfStopped, IfFollowed};
 
+use crate::admin::{FirstState, RunBefore};
 use crate::closing::write_end;
+use crate::ended_run::{EndedRun, ended_of};
+use crate::inherited::Inherited;
+use crate::listeners::FirstPorts;
+use crate::next_start::start_after;
 use crate::options::RunOptions;
+use crate::prepared_run::{NextPlan, PreparedRun};
 use crate::relay::{NAME, OpenRelay, Parts, Relay};
-use crate::running::run_until_stopped;
+use crate::reload_source::ReloadSource;
+use crate::running::run_until_ended;
 use crate::runtime::RelayRuntime;
 use crate::spool_folder::SpoolFolder;
-use crate::start::Start;
-use admin_port::AdminListener;
+use crate::spool_left::spool_slots;
+use crate::start::{Process, Start};
+use crate::thread_records::{Records, RunLeft};
 use finished_run::Recorder;
 use locked_queues::Set;
+use mio_loops::{SystemTimes, TimeSource};
+use relay_base::NoMemory;
 use relay_files::{RelayFault, RunConfiguration, Source, Sources, Status};
+use relay_watchers::{LogEnd, StatusServer};
 use std::alloc::Global;
 use std::io::Write;
 use std::marker::Brand;
 use std::mem;
+use std::rt::Clock;
+use std::time::Instant;
 
 /// Runs a relay until its admin port takes `stop`, and settles.
 ///
@@ -55,7 +78,19 @@ use std::mem;
 /// If it is given a recorder, the threads keep what they log until the run has closed, and the recorder gets that, and how
 /// the queues settled (`finished_run::FinishedRun`). It gets nothing if the run ends before it settles. The line, the status and the
 /// faults of the run do not depend on it.
-pub fn run<R: RelayRuntime, S: Source, W: Write, L: Write + Send + Drop, K: Recorder + Drop>(
+///
+/// `reload` is answered once the files have been read: why the relay goes on as it was; or `reloaded`, once the next run has
+/// begun. That has the same ports; each connection goes on where its reader was, and each destination that stays is sent first
+/// what the run before held for it. What was held for one that is gone is sent for as long as `--drain` says, and then written
+/// to its file, or lost. The line that says how a run settled which another follows goes to the log.
+pub fn run<
+    R: RelayRuntime,
+    S: Source,
+    W: Write,
+    L: Write + Send + Drop,
+    K: Recorder + Drop,
+    F: ReloadSource,
+>(
     rt: &R,
     alloc: Global,
     sources: &mut Sources<S>,
@@ -64,93 +99,357 @@ pub fn run<R: RelayRuntime, S: Source, W: Write, L: Write + Send + Drop, K: Reco
     log: Option<L>,
     recorder: Option<K>,
     spool: Option<SpoolFolder<'_>>,
+    files: &F,
 ) -> Result<Status, RelayFault>
     // At a status the files are a configuration. If the bytes of the output are known, it has gained `ready` and the line
-    // that says how the run settled, and the status is that of the same settling.
+    // that says how the last run settled, and the status is that of the same settling.
     ensures ok { IfOk result (λ status. AllReadAs S.bytes sources.old
         (EndsWithStatus (W.contents output.old) (W.contents output.new) status)) }
 
     // A fault is the first of the files, with nothing written. Or it is one of the start, with nothing written; or one of
     // the output or of memory, with a first part of these lines written; or, with both written, that of the first
-    // receiver that had one, and if none had, of the first sender.
+    // receiver that had one, and if none had, of the first sender. Or it is one of the start of a run after a reload, with
+    // `ready` written.
     ensures err { IfErr result (λ fault. AllReadAs S.bytes sources.old
         (EndsWithFault sources.old sources.new (W.contents output.old) (W.contents output.new)
         fault)) }
 {
     let configuration = RunConfiguration::read(alloc, sources)?;
-    match Start::new(rt, alloc, configuration, options, recorder.is_some(), spool) {
-        Ok(start) => run_relay::<Brand, R, W, L, K>(rt, alloc, start, output, log, recorder),
+    let process = Process {
+        options,
+        folder: spool,
+        is_recorded: recorder.is_some(),
+        began: Instant::now(rt).ok(),
+    };
+    match Start::new(rt, alloc, configuration, &process) {
+        Ok(start) => run_all(rt, alloc, start, &process, output, log, recorder, files),
         Err(fault) => Err(fault),
     }
 }
 
-/// Opens a relay, lends it to its run, and drops it.
+/// The run that is to begin: what it begins with, the output of its log, what is still to do for the run before, and its
+/// number, from 1 on.
+#[derive(Drop)]
+struct NextRun<L> {
+    start: Start,
+    log: Option<L>,
+    before: RunBefore,
+    number: u64,
+}
+
+/// How a run ended.
+#[derive(Drop)]
+enum RunEnd<L> {
+    /// It was stopped, and this is its status.
+    Stopped(Status),
+    /// Another one follows.
+    Followed(NextRun<L>),
+}
+
+/// Makes one run after another until one is stopped.
+fn run_all<R: RelayRuntime, W: Write, L: Write + Send + Drop, K: Recorder + Drop, F: ReloadSource>(
+    rt: &R,
+    alloc: Global,
+    start: Start,
+    process: &Process<'_>,
+    output: &mut W,
+    log: Option<L>,
+    recorder: Option<K>,
+    files: &F,
+) -> Result<Status, RelayFault>
+    ensures ok { IfOk result (RunEnds ready_line (W.contents output.old) (W.contents output.new)) }
+    ensures err { IfErr result (RelayFails (W.contents output.old) (W.contents output.new)) }
+{
+    let mut recorder = recorder;
+    let mut next = NextRun {
+        start,
+        log,
+        before: RunBefore::none(),
+        number: 1,
+    };
+    for _ in rt.forever() {
+        match one_run(rt, alloc, next, process, output, &mut recorder, files) {
+            Ok(RunEnd::Stopped(status)) => return Ok(status),
+            Ok(RunEnd::Followed(following)) => next = following,
+            Err(fault) => return Err(fault),
+        }
+    }
+    unreachable!()
+}
+
+/// Makes a run, over queues of its own.
+fn one_run<R: RelayRuntime, W: Write, L: Write + Send + Drop, K: Recorder + Drop, F: ReloadSource>(
+    rt: &R,
+    alloc: Global,
+    next: NextRun<L>,
+    process: &Process<'_>,
+    output: &mut W,
+    recorder: &mut Option<K>,
+    files: &F,
+) -> Result<RunEnd<L>, RelayFault>
+    ensures stopped { IfOk result (λ end. IfStopped end
+        (RunEnds (opening (is_none next.before.waiting)) (W.contents output.old) (W.contents output.new))) }
+    ensures followed { IfOk result (λ end. IfFollowed end (λ following.
+        Appends (W.contents output.old) (W.contents output.new) (opening (is_none next.before.waiting))
+        × (is_none following.before.waiting ≡ false))) }
+    ensures err { IfErr result
+        (RunFails (opening (is_none next.before.waiting)) (W.contents output.old) (W.contents output.new)) }
+{
+    run_relay::<Brand, R, W, L, K, F>(rt, alloc, next, process, output, recorder, files)
+}
+
+/// Opens a relay, lends it to its run, and takes it apart.
 fn run_relay<
     B: Set + Send + Sync,
     R: RelayRuntime,
     W: Write,
     L: Write + Send + Drop,
     K: Recorder + Drop,
+    F: ReloadSource,
 >(
     rt: &R,
     alloc: Global,
-    start: Start,
+    next: NextRun<L>,
+    process: &Process<'_>,
     output: &mut W,
-    log: Option<L>,
-    recorder: Option<K>,
-) -> Result<Status, RelayFault>
-    requires table { start.blank ≡ B.table }
+    recorder: &mut Option<K>,
+    files: &F,
+) -> Result<RunEnd<L>, RelayFault>
+    requires table { next.start.blank ≡ B.table }
     requires name { NAME ≡ B.name }
-    requires dests { start.shape.dests ≡ B.dests }
-    requires size { start.shape.size ≡ B.size }
-    requires receivers { start.shape.receivers ≡ B.receivers }
-    requires senders { start.shape.senders ≡ B.senders }
-    ensures ok { IfOk result (RunEnds (W.contents output.old) (W.contents output.new)) }
-    ensures err { IfErr result (RunFails (W.contents output.old) (W.contents output.new)) }
+    requires dests { next.start.shape.dests ≡ B.dests }
+    requires size { next.start.shape.size ≡ B.size }
+    requires receivers { next.start.shape.receivers ≡ B.receivers }
+    requires senders { next.start.shape.senders ≡ B.senders }
+    ensures stopped { IfOk result (λ end. IfStopped end
+        (RunEnds (opening (is_none next.before.waiting)) (W.contents output.old) (W.contents output.new))) }
+    ensures followed { IfOk result (λ end. IfFollowed end (λ following.
+        Appends (W.contents output.old) (W.contents output.new) (opening (is_none next.before.waiting))
+        × (is_none following.before.waiting ≡ false))) }
+    ensures err { IfErr result
+        (RunFails (opening (is_none next.before.waiting)) (W.contents output.old) (W.contents output.new)) }
 {
-    match Relay::<B>::open(rt, alloc, start, log) {
-        Ok(opened) => {
-            let OpenRelay {
-                mut relay,
-                parts,
-                mut admin,
-            } = opened;
-            let ended = run_to_end(rt, alloc, &mut relay, parts, &mut admin, output, recorder);
-            // Whoever waits at the admin port for the end of the relay knows of it now.
-            drop(admin);
-            mem::forget(relay);
-            ended
+    let NextRun {
+        start,
+        log,
+        before,
+        number,
+    } = next;
+    let is_first = before.waiting.is_none();
+    let OpenRelay {
+        relay,
+        parts,
+        ports,
+    } = match Relay::<B>::open(rt, alloc, start, log, process, is_first) {
+        Ok(opened) => opened,
+        Err(refused) => {
+            drop(before);
+            spool_inherited(rt, alloc, refused.inherited, process);
+            return Err(refused.fault);
         }
-        Err(fault) => Err(fault),
+    };
+    let mut state = FirstState {
+        ports,
+        before,
+        next: None,
+        log: None,
+        server: None,
+    };
+    let left = run_until_ended(
+        rt, alloc, &relay, parts, &*files, &*process, &mut state, output, recorder,
+    );
+    let FirstState {
+        ports,
+        before,
+        next,
+        log,
+        server,
+    } = state;
+    drop(before);
+    let left = match left {
+        Ok(records) => RunLeft {
+            records,
+            log,
+            server,
+        },
+        Err(fault) => {
+            drop(ports);
+            drop((log, server));
+            spool_failed(rt, alloc, relay, next, process, number);
+            return Err(fault);
+        }
+    };
+    match next {
+        Some(next) => follow(rt, alloc, relay, left, next, ports, process, number),
+        None => stop(alloc, relay, left, ports, output, recorder),
     }
 }
 
-/// Runs an open relay until it is stopped and its threads have ended, settles, and writes what is left.
-fn run_to_end<
-    B: Set + Send + Sync,
-    R: RelayRuntime,
-    W: Write,
-    L: Write + Send + Drop,
-    K: Recorder + Drop,
->(
-    rt: &R,
+/// Settles the last run, and writes what it leaves.
+fn stop<B: Set, W: Write, L: Drop, K: Recorder>(
     alloc: Global,
-    relay: &mut Relay<B>,
-    parts: Parts<B, L>,
-    admin: &mut AdminListener,
+    relay: Relay<B>,
+    left: RunLeft<L>,
+    ports: FirstPorts,
     output: &mut W,
-    recorder: Option<K>,
-) -> Result<Status, RelayFault>
-    ensures ok { IfOk result (RunEnds (W.contents output.old) (W.contents output.new)) }
-    ensures err { IfErr result (RunFails (W.contents output.old) (W.contents output.new)) }
+    recorder: &mut Option<K>,
+) -> Result<RunEnd<L>, RelayFault>
+    ensures stopped { IfOk result (λ end. IfStopped end (λ status.
+        (settled : Result Settled SettleFault)
+        × Appends (W.contents output.old) (W.contents output.new) (closing_line settled)
+        × (status ≡ closing_status settled))) }
+    ensures never_followed { IfOk result (λ end. IfFollowed end (λ _. ⊥)) }
+    ensures err { IfErr result (λ fault. (settled : Result Settled SettleFault)
+        × ClosesWith (W.contents output.old) (W.contents output.new) settled left.records.fault fault) }
 {
-    let records = run_until_stopped(rt, alloc, relay, parts, admin, output)?;
+    let mut relay = relay;
+    let RunLeft {
+        records,
+        log,
+        server,
+    } = left;
     let (doors, outlets) = (records.doors.as_slice(), records.outlets.as_slice());
     let settled = relay.queues.settle(alloc, doors, outlets);
     let run = relay.finished(&settled, &records.logs);
     let ended = write_end(alloc, &run, records.fault, output, recorder);
+    drop((log, server));
+    // Whoever waits at the admin port for the end of the relay knows of it now.
+    drop(ports);
     // Datapoint by datapoint it would take long to give all this back. The process ends, and the system takes it at once.
     mem::forget(settled);
     mem::forget(records);
-    ended
+    mem::forget(relay);
+    match ended {
+        Ok(status) => Ok(RunEnd::Stopped(status)),
+        Err(fault) => Err(fault),
+    }
+}
+
+/// Takes a relay apart whose run has ended, and makes of it what the next one begins with. If that cannot begin, what is left
+/// is written to files, if there is a folder.
+fn follow<B: Set, R: RelayRuntime, L: Drop>(
+    rt: &R,
+    alloc: Global,
+    relay: Relay<B>,
+    left: RunLeft<L>,
+    next: PreparedRun<B>,
+    ports: FirstPorts,
+    process: &Process<'_>,
+    number: u64,
+) -> Result<RunEnd<L>, RelayFault>
+    ensures followed { IfOk result (λ end. IfFollowed end (λ following.
+        is_none following.before.waiting ≡ false)) }
+    ensures never_stopped { IfOk result (λ end. IfStopped end (λ _. ⊥)) }
+    ensures err { IfErr result (λ fault. fault ≡ RelayFault.NoMemory) }
+{
+    let RunLeft {
+        records,
+        log,
+        server,
+    } = left;
+    let PreparedRun { next, room } = next;
+    let mut ended = ended_of(alloc, relay, room, number, records);
+    match following(rt, alloc, &mut ended, next, ports, log, server, process) {
+        Ok((start, log, waiting)) => Ok(RunEnd::Followed(NextRun {
+            start,
+            log,
+            before: RunBefore {
+                waiting: Some(waiting),
+                record: Some(ended.record),
+            },
+            number: number.saturating_add(1),
+        })),
+        Err(NoMemory) => {
+            spool_ended(rt, alloc, ended, process);
+            Err(RelayFault::NoMemory)
+        }
+    }
+}
+
+/// What the next run begins with, the output of its log, and the connection that waits to be told of it.
+fn following<R: Clock, L: Drop>(
+    rt: &R,
+    alloc: Global,
+    ended: &mut EndedRun,
+    next: NextPlan,
+    ports: FirstPorts,
+    log: Option<LogEnd<L>>,
+    server: Option<StatusServer>,
+    process: &Process<'_>,
+) -> Result<(Start, Option<L>, u64), NoMemory> {
+    let (output, logged) = match log {
+        Some(log) => (Some(log.output), log.receivers),
+        None => (None, Vec::new(alloc)),
+    };
+    let waiting = next.connection;
+    let millis = SystemTimes::since(rt, process.began).millis();
+    match start_after(alloc, ended, next, ports, server, logged, process, millis) {
+        Ok(start) => Ok((start, output, waiting)),
+        Err(fault) => {
+            drop(output);
+            Err(fault)
+        }
+    }
+}
+
+/// Writes to files what ended runs left to one that could not be opened.
+fn spool_inherited<R: RelayRuntime>(
+    rt: &R,
+    alloc: Global,
+    inherited: Inherited,
+    process: &Process<'_>,
+) {
+    spool_slots(rt, alloc, &inherited.slots, process.file_limit());
+    spool_slots(rt, alloc, &inherited.gone.slots, process.file_limit());
+    drop(inherited);
+}
+
+/// Writes to files what a run held that failed, if it is one of a reload: that before, of which what the threads recorded could
+/// not be kept, or that behind, which could not begin.
+fn spool_failed<B: Set, R: RelayRuntime>(
+    rt: &R,
+    alloc: Global,
+    relay: Relay<B>,
+    next: Option<PreparedRun<B>>,
+    process: &Process<'_>,
+    number: u64,
+) {
+    let room = match next {
+        Some(PreparedRun { next, room }) => {
+            drop(next);
+            Some(room)
+        }
+        None if relay.is_first => {
+            drop(relay);
+            return;
+        }
+        None => relay.queues.end_room(alloc).ok(),
+    };
+    let Some(room) = room else {
+        spool_slots(rt, alloc, &relay.slots, process.file_limit());
+        spool_slots(rt, alloc, &relay.gone.slots, process.file_limit());
+        drop(relay);
+        return;
+    };
+    spool_ended(
+        rt,
+        alloc,
+        ended_of(alloc, relay, room, number, Records::none(alloc)),
+        process,
+    );
+}
+
+/// Writes to files what an ended run left that no other one can go on with.
+fn spool_ended<R: RelayRuntime>(rt: &R, alloc: Global, ended: EndedRun, process: &Process<'_>) {
+    let EndedRun {
+        record,
+        slots,
+        gone,
+        ..
+    } = ended;
+    drop(record);
+    spool_slots(rt, alloc, &slots, process.file_limit());
+    drop(slots);
+    spool_slots(rt, alloc, &gone.slots, process.file_limit());
+    drop(gone);
 }

@@ -4,10 +4,12 @@ ghost use Rattle.std.specs.Prelude.{◌≡◌, ◌≤◌};
 
 use crate::counted_connector::CountedConnector;
 use crate::relay::Relay;
-use crate::spool_connector::{SenderSpool, SpoolConnector};
+use crate::rest_connector::{RestConnector, SenderRests};
+use crate::sender_lefts::Share;
+use crate::spool_connector::{SenderSpool, SpoolConnector, SpoolSink};
 use crate::thread_end::ThreadEnd;
 use locked_queues::{Outlet, OutletRecord, Set};
-use mio_loops::{SystemTimes, WriteLog};
+use mio_loops::{SystemTimes, TimeSource, WriteLog};
 use run_state::{BeginNote, Signals, ThreadWork};
 use senders::{SenderRecord, StoreConnector, StoreStream, WakeGate, send_batches};
 use spool::SpoolDisk;
@@ -16,13 +18,15 @@ use std::net::Net;
 use std::rt::Clock;
 use std::sync::Wait;
 
-/// A sender that is to run: the relay that it is of, its number, its connector, the files of its destinations, and its outlet.
+/// A sender that is to run: the relay that it is of, its number, its connector, the places for the files of its destinations
+/// and for what ended runs left for them, and its outlet.
 #[derive(Drop)]
-pub(crate) struct SenderJob<'x, B: Set, R: Wait> {
+pub(crate) struct SenderJob<'x, B: Set, R: Wait + SpoolDisk + Drop> {
     pub(crate) relay: &'x Relay<B>,
     pub(crate) number: usize,
     pub(crate) connector: StoreConnector<'x, R>,
     pub(crate) spool: SenderSpool<'x, StoreStream<'x>>,
+    pub(crate) rests: SenderRests<'x, SpoolSink<'x, StoreStream<'x>, R>>,
     pub(crate) outlet: Outlet<'x, 'x, 'x, B, R, WakeGate>,
 }
 
@@ -45,13 +49,26 @@ impl<'x, B: Set, R: Wait + Clock + Net + SpoolDisk + Copy + Drop> ThreadWork<
         let SenderJob {
             relay,
             number,
-            connector,
-            spool,
+            mut connector,
+            mut spool,
+            mut rests,
             outlet,
         } = self;
         let (dests, limit) = (relay.shape.dests, relay.shape.limit);
-        let times = SystemTimes::new(rt);
-        let connector = SpoolConnector::new(connector, *rt, spool, signals, &relay.orders);
+        let senders = relay.shape.senders;
+        let times = SystemTimes::since(rt, relay.began);
+        let share = Share {
+            slots: &relay.slots,
+            dests,
+            sender: number,
+            senders,
+        };
+        share.take_lefts(&mut connector, &mut spool, &mut rests, times.millis());
+        let (slots, orders) = (&relay.slots, &relay.orders);
+        let connector = SpoolConnector::new(connector, *rt, spool, slots, signals, orders);
+        let connector = RestConnector::new(
+            alloc, connector, rests, slots, signals, number, senders,
+        );
         let connector = CountedConnector::new(
             connector,
             relay.state.end(),

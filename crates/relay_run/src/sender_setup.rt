@@ -4,10 +4,10 @@ ghost use Rattle.std.specs.Prelude.{◌≡◌, ◌≤◌, ◌<◌, true, length,
 ghost use Rattle.relay_run.specs.Running.{is_start_fault};
 
 use crate::closing::output_fault;
+use crate::rest_connector::SenderRests;
 use crate::runtime::RelayRuntime;
 use crate::sender_job::SenderJob;
-use crate::spool_connector::SenderSpool;
-use crate::spool_folder::RunSpool;
+use crate::spool_connector::{SenderSpool, SpoolSink};
 use crate::thread_jobs::JobMaker;
 use locked_queues::{Outlet, OutletSeat, Set};
 use mio_loops::Readiness;
@@ -57,14 +57,13 @@ pub(crate) fn add_senders<'x, B: Set, R: RelayRuntime>(
     maker: &JobMaker<'x, B, R>,
     outlets: Vec<OutletSeat<B>>,
     watches: Vec<Readiness>,
-    spool: &mut RunSpool,
     jobs: &mut Vec<SenderJob<'x, B, R>>,
 ) -> Result<(), RelayFault>
     ensures { IfErr result (λ fault. is_start_fault fault ≡ true) }
 {
     let mut waits = watches.into_iter();
     for seat in outlets {
-        add_sender(maker, seat, waits.next(), spool, jobs)?;
+        add_sender(maker, seat, waits.next(), jobs)?;
     }
     Ok(())
 }
@@ -74,7 +73,6 @@ fn add_sender<'x, B: Set, R: RelayRuntime>(
     maker: &JobMaker<'x, B, R>,
     seat: OutletSeat<B>,
     readiness: Option<Readiness>,
-    spool: &mut RunSpool,
     jobs: &mut Vec<SenderJob<'x, B, R>>,
 ) -> Result<(), RelayFault>
     ensures { IfErr result (λ fault. is_start_fault fault ≡ true) }
@@ -82,7 +80,7 @@ fn add_sender<'x, B: Set, R: RelayRuntime>(
     let sender = jobs.len();
     match connector_of(maker, readiness, sender) {
         Ok(connector) => {
-            let Ok(files) = sender_spool(maker, spool, sender) else {
+            let Ok((spool, rests)) = places_of(maker) else {
                 drop(seat);
                 drop(connector);
                 return Err(RelayFault::NoMemory);
@@ -93,7 +91,8 @@ fn add_sender<'x, B: Set, R: RelayRuntime>(
                 relay,
                 number: sender,
                 connector,
-                spool: files,
+                spool,
+                rests,
                 outlet,
             };
             Ok(add(jobs, job)?)
@@ -105,15 +104,34 @@ fn add_sender<'x, B: Set, R: RelayRuntime>(
     }
 }
 
-/// The files of the destinations of the sender of this number.
-fn sender_spool<'x, B: Set, R: RelayRuntime>(
+/// The places of a sender for the files of its destinations, and for what ended runs left for them.
+fn places_of<'x, B: Set, R: RelayRuntime>(
     maker: &JobMaker<'x, B, R>,
-    spool: &mut RunSpool,
-    sender: usize,
-) -> Result<SenderSpool<'x, StoreStream<'x>>, NoMemory> {
-    let share = spool.take_share(maker.alloc, sender, maker.relay.shape.senders)?;
-    let notes = maker.relay.state.spool_notes();
-    SenderSpool::new(maker.alloc, share, spool.limit(), notes)
+) -> Result<
+    (
+        SenderSpool<'x, StoreStream<'x>>,
+        SenderRests<'x, SpoolSink<'x, StoreStream<'x>, R>>,
+    ),
+    NoMemory,
+> {
+    let relay = maker.relay;
+    let state = &relay.state;
+    let count = if relay.shape.is_spooled {
+        relay.shape.dests
+    } else {
+        0
+    };
+    let spool = SenderSpool::new(maker.alloc, count, relay.file_limit, state.spool_notes())?;
+    if relay.is_first {
+        return Ok((spool, SenderRests::none(maker.alloc, state.rests())));
+    }
+    match SenderRests::new(maker.alloc, relay.shape.dests, state.rests()) {
+        Ok(rests) => Ok((spool, rests)),
+        Err(fault) => {
+            drop(spool);
+            Err(fault)
+        }
+    }
 }
 
 /// The connector of the sender of this number, which notes its events.

@@ -117,15 +117,22 @@ impl<'s, A: Accept> Accept for SharedListener<'s, A> {
         self.listener.wait(millis)
     }
 
+    fn has_handed(&self) -> bool {
+        self.listener.has_handed()
+    }
+
     fn accept(&mut self, token: Option<Token>) -> AcceptOutcome<SharedStream<'s, A::Stream>> {
-        if token.is_none() && self.share.has_room() {
-            // The system has told the others of the connection too.
-            return AcceptOutcome::Nothing;
+        // What was handed over to this receiver is left to no other.
+        if !self.listener.has_handed() {
+            if token.is_none() && self.share.has_room() {
+                // The system has told the others of the connection too.
+                return AcceptOutcome::Nothing;
+            }
+            if self.leaves() {
+                return AcceptOutcome::Closed;
+            }
+            self.held_until = None;
         }
-        if self.leaves() {
-            return AcceptOutcome::Closed;
-        }
-        self.held_until = None;
         match self.listener.accept(token) {
             AcceptOutcome::Stream(stream) => {
                 self.share.note_held();
@@ -136,6 +143,14 @@ impl<'s, A: Accept> Accept for SharedListener<'s, A> {
             AcceptOutcome::Later => AcceptOutcome::Later,
             AcceptOutcome::Failed => AcceptOutcome::Failed,
         }
+    }
+
+    fn hand_over(&mut self, token: Token, stream: SharedStream<'s, A::Stream>, rest: &[u8]) {
+        self.listener.hand_over(token, stream.into_stream(), rest);
+    }
+
+    fn hand_over_others(&mut self) {
+        self.listener.hand_over_others();
     }
 
     fn note_totals(&mut self, totals: ReadTotals) {

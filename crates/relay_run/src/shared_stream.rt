@@ -15,6 +15,13 @@ impl<'s, S> SharedStream<'s, S> {
     pub(crate) fn new(stream: S, share: Share<'s>) -> SharedStream<'s, S> {
         SharedStream { stream, share }
     }
+
+    /// The connection alone, which the receiver of the share holds no longer.
+    pub(crate) fn into_stream(self) -> S {
+        let SharedStream { stream, share } = self;
+        share.note_left();
+        stream
+    }
 }
 
 impl<S: Read> Read for SharedStream<'_, S> {

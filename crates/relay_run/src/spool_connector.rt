@@ -1,12 +1,15 @@
 //! Connections behind the files of what an earlier run did not send, and files in place of the last connections.
 
-ghost use Rattle.std.specs.Prelude.{◌≡◌, ◌≤◌, IfErr};
+ghost use Rattle.std.specs.Prelude.{◌≡◌, IfErr};
 
+use crate::dest_list::copy_list;
+use crate::dest_slots::DestSlots;
 use crate::end_orders::EndOrders;
+use crate::left_dest::socket_of;
 use mio_loops::ReadinessFault;
 use relay_base::{DestId, MOST_DESTINATIONS, NoMemory, add};
 use run_state::Signals;
-use senders::Connect;
+use senders::{Connect, KeptSocket};
 use spool::{DestSpool, FileConnection, FileSink, SpoolDisk, SpoolNotes, Turn};
 use std::alloc::Global;
 use std::io;
@@ -33,22 +36,19 @@ struct SpooledDest<W> {
 }
 
 impl<'n, W: Drop> SenderSpool<'n, W> {
-    /// What a sender has for these files of its destinations, by destination, where it notes what happens to them. Refuses
-    /// if out of memory.
+    /// What a sender has for the files of so many destinations, 0 if there is no spool, where it notes what happens to them: no
+    /// files yet. Refuses if out of memory.
     pub(crate) fn new(
         alloc: Global,
-        spools: Vec<Option<DestSpool>>,
+        count: usize,
         limit: Option<u64>,
         notes: &'n [SpoolNotes],
     ) -> Result<SenderSpool<'n, W>, NoMemory> {
         let mut dests = Vec::new(alloc);
-        let size = if spools.is_empty() { 0 } else { PIECE };
-        let mut place = 0;
-        for spool in spools {
-            note_behind(notes.get(place), &spool);
-            place = place.saturating_add(1);
+        let size = if count == 0 { 0 } else { PIECE };
+        for _ in 0..count {
             let dest = SpooledDest {
-                spool,
+                spool: None,
                 connection: FileConnection::new(),
             };
             add(&mut dests, dest)?;
@@ -59,6 +59,36 @@ impl<'n, W: Drop> SenderSpool<'n, W> {
             limit,
             notes,
         })
+    }
+
+    /// From now on these are the files of a destination. The connection that the earlier one went out on goes on, if it is
+    /// there.
+    pub(crate) fn begin(&mut self, place: usize, files: Option<DestSpool>, sink: Option<W>) {
+        note_behind(self.notes.get(place), &files);
+        let Some(state) = self.dests.get_mut(place) else {
+            drop((files, sink));
+            return;
+        };
+        let mut files = files;
+        match sink {
+            Some(sink) => state.connection.keep(sink),
+            None => reconnect(&mut files),
+        }
+        state.spool = files;
+    }
+
+    /// Takes the files of a destination, and the connection that the earlier one goes out on, if there is one.
+    fn take(&mut self, place: usize) -> Option<(DestSpool, Option<W>)> {
+        let state = self.dests.get_mut(place)?;
+        let files = state.spool.take()?;
+        Some((files, state.connection.take()))
+    }
+}
+
+/// The connection that the earlier file of a destination went out on is gone.
+fn reconnect(files: &mut Option<DestSpool>) {
+    if let Some(files) = files {
+        files.reconnect();
     }
 }
 
@@ -81,8 +111,11 @@ pub(crate) struct SpoolConnector<'n, 's, N: Connect, D> {
     connector: N,
     disk: D,
     spool: SenderSpool<'n, N::Sink>,
+    slots: &'n DestSlots,
     signals: &'s Signals,
     orders: &'s EndOrders,
+    // Whether the last connections are files.
+    may_spool: bool,
     ready: [DestId; MOST_DESTINATIONS],
 }
 
@@ -92,6 +125,7 @@ impl<'n, 's, N: Connect, D: SpoolDisk + Copy + Drop> SpoolConnector<'n, 's, N, D
         connector: N,
         disk: D,
         spool: SenderSpool<'n, N::Sink>,
+        slots: &'n DestSlots,
         signals: &'s Signals,
         orders: &'s EndOrders,
     ) -> SpoolConnector<'n, 's, N, D> {
@@ -99,16 +133,38 @@ impl<'n, 's, N: Connect, D: SpoolDisk + Copy + Drop> SpoolConnector<'n, 's, N, D
             connector,
             disk,
             spool,
+            slots,
             signals,
             orders,
+            may_spool: true,
             ready: [DestId(0); MOST_DESTINATIONS],
         }
+    }
+
+    /// No connection is a file: somebody else writes to files what is not sent.
+    pub(crate) fn without_files(self) -> SpoolConnector<'n, 's, N, D> {
+        let mut connector = self;
+        connector.may_spool = false;
+        connector
     }
 
     /// Whether the last connection of a destination is its new file.
     fn is_spooling(&self, dest: DestId) -> bool {
         let is_told = self.signals.is_spooling() || self.orders.is_spooled(dest);
-        is_told && !self.spool.is_none()
+        self.may_spool && is_told && !self.spool.is_none()
+    }
+
+    /// Leaves the files of a destination in their slot, with the socket that the earlier one goes out on if another run
+    /// follows.
+    fn leave(&mut self, place: usize) {
+        let Some((files, sink)) = self.spool.take(place) else {
+            return;
+        };
+        let socket = match sink {
+            Some(sink) => { socket_of(&mut self.connector, self.signals, DestId(place), sink) }
+            None => None,
+        };
+        self.slots.leave_files(place, Some(files), socket);
     }
 
     /// Waits; not at all if a file goes on at once. Connections that have closed take no more of their files.
@@ -249,15 +305,6 @@ impl<W: Write + Drop> SpooledDest<W> {
     }
 }
 
-/// Copies the destinations of a list, which names each once, and returns how many they are.
-fn copy_list(list: &[DestId], copy: &mut [DestId; MOST_DESTINATIONS]) -> usize
-    ensures { result ≤ MOST_DESTINATIONS }
-{
-    let count = list.len().min(MOST_DESTINATIONS);
-    copy[..count].copy_from_slice(&list[..count]);
-    count
-}
-
 impl<'n, 's, N: Connect + Drop, D: SpoolDisk + Copy + Drop> Connect
     for SpoolConnector<'n, 's, N, D> {
     type Sink = SpoolSink<'n, N::Sink, D>;
@@ -288,6 +335,20 @@ impl<'n, 's, N: Connect + Drop, D: SpoolDisk + Copy + Drop> Connect
             return self.spool.has_file(dest.0);
         }
         self.connector.has_closed(dest)
+    }
+
+    fn take_back(&mut self, dest: DestId, sink: SpoolSink<'n, N::Sink, D>) -> Option<KeptSocket> {
+        match sink {
+            SpoolSink::Store(sink) => self.connector.take_back(dest, sink),
+            SpoolSink::File(_) => None,
+        }
+    }
+
+    fn end(&mut self) {
+        for place in 0..self.spool.dests.len() {
+            self.leave(place);
+        }
+        self.connector.end();
     }
 
     fn end_writes(&mut self) {

@@ -3,25 +3,28 @@
 ghost use Rattle.std.specs.Prelude.{◌≡◌, ◌≤◌, true, length, IfErr};
 ghost use Rattle.relay_run.specs.Running.{is_start_fault};
 
+use crate::inherited::Inherited;
 use crate::listeners::{Ports, bind_all};
 use crate::options::RunOptions;
 use crate::runtime::RelayRuntime;
 use crate::shape::{Shape, shape_of};
-use crate::spool_folder::{RunSpool, SpoolFolder};
+use crate::spool_folder::{SpoolFolder, open_files};
 use conf_text::Settings;
-use locked_queues::BlankTotals;
+use locked_queues::{BlankTotals, MOST_RECEIVERS, MOST_SENDERS};
+use relay_base::{LARGEST_MESSAGE, LARGEST_QUEUE_SIZE, MOST_DESTINATIONS, NoMemory};
 use relay_files::{RelayFault, RunConfiguration};
 use std::alloc::Global;
+use std::time::Instant;
 
-/// What a run begins with: its configuration and its numbers, its ports, which are bound, its files for what is not sent, and
-/// the totals of its queues.
+/// What a run begins with: its configuration and its numbers, its ports, which are bound, the totals of its queues, and what
+/// ended runs left.
 #[derive(Drop)]
 pub(crate) struct Start {
     pub(crate) configuration: RunConfiguration,
     pub(crate) shape: Shape,
     pub(crate) ports: Ports,
-    pub(crate) spool: RunSpool,
     pub(crate) blank: BlankTotals,
+    pub(crate) inherited: Inherited,
     ghost dests: { (shape.dests ≡ length configuration.settings.routing.destinations)
         × (1 ≤ shape.dests) × (shape.dests ≤ 64) },
     ghost size: { (1 ≤ shape.size) × (shape.size ≤ 1000000) },
@@ -30,67 +33,91 @@ pub(crate) struct Start {
     ghost senders: { (1 ≤ shape.senders) × (shape.senders ≤ 8) },
 }
 
+/// What all runs of a process have in common: how they run, the folder for what is not sent, if there is one, whether they are
+/// recorded, and since when their milliseconds count.
+#[derive(Clone, Copy)]
+pub(crate) struct Process<'a> {
+    pub(crate) options: RunOptions,
+    pub(crate) folder: Option<SpoolFolder<'a>>,
+    pub(crate) is_recorded: bool,
+    pub(crate) began: Option<Instant>,
+}
+
+impl Process<'_> {
+    /// The numbers of a run of these settings with this many ports at which receivers listen.
+    pub(crate) fn shape(&self, settings: &Settings, ports: usize) -> Shape
+        ensures dests { (result.dests ≡ length settings.now.routing.destinations)
+            × (1 ≤ result.dests) × (result.dests ≤ MOST_DESTINATIONS) }
+        ensures size { (1 ≤ result.size) × (result.size ≤ LARGEST_QUEUE_SIZE) }
+        ensures limit { (1 ≤ result.limit) × (result.limit ≤ LARGEST_MESSAGE) }
+        ensures receivers { (1 ≤ result.receivers) × (result.receivers ≤ MOST_RECEIVERS) }
+        ensures senders { (1 ≤ result.senders) × (result.senders ≤ MOST_SENDERS) }
+    {
+        let is_spooled = self.folder.is_some();
+        shape_of(settings, ports, self.options, self.is_recorded, is_spooled)
+    }
+
+    /// The system's limit for the size of a file, in bytes, if there is one.
+    pub(crate) fn file_limit(&self) -> Option<u64> {
+        match self.folder {
+            Some(folder) => folder.limit,
+            None => None,
+        }
+    }
+}
+
 impl Start {
-    /// Binds the ports of a configuration, and reads the folder of what was not sent, if there is one. Refuses a fault of the
-    /// start; what was bound is closed again.
+    /// What the first run of a process begins with: binds the ports of its configuration, and reads the folder of what was not
+    /// sent, if there is one. Refuses a fault of the start; what was bound is closed again.
     pub(crate) fn new<R: RelayRuntime>(
         rt: &R,
         alloc: Global,
         configuration: RunConfiguration,
-        options: RunOptions,
-        is_recorded: bool,
-        folder: Option<SpoolFolder<'_>>,
+        process: &Process<'_>,
     ) -> Result<Start, RelayFault>
         ensures { IfErr result (λ fault. is_start_fault fault ≡ true) }
     {
-        match bind_and_read(rt, alloc, configuration.settings(), options, folder) {
-            Ok((ports, spool, blank)) => {
-                let shape = shape_of(
-                    configuration.settings(),
-                    ports.receivers.len(),
-                    options,
-                    is_recorded,
-                    folder.is_some(),
-                );
-                Ok(Start {
-                    configuration,
-                    shape,
-                    ports,
-                    spool,
-                    blank,
-                })
-            }
+        let settings = configuration.settings();
+        let ports = match bind_all(rt, alloc, settings, process.options) {
+            Ok(ports) => ports,
             Err(fault) => {
                 drop(configuration);
-                Err(fault)
+                return Err(fault);
+            }
+        };
+        let shape = process.shape(settings, ports.receivers.len());
+        match begin_with(rt, alloc, settings, &shape, process) {
+            Ok((inherited, blank)) => Ok(Start {
+                configuration,
+                shape,
+                ports,
+                blank,
+                inherited,
+            }),
+            Err(_) => {
+                drop(configuration);
+                drop(ports);
+                Err(RelayFault::NoMemory)
             }
         }
     }
 }
 
-/// The ports of these settings, which it binds, their files in a folder, if there is one, and the totals of their queues.
-fn bind_and_read<R: RelayRuntime>(
+/// What the first run of a process finds in the folder of what was not sent, and the totals of its queues.
+fn begin_with<R: RelayRuntime>(
     rt: &R,
     alloc: Global,
     settings: &Settings,
-    options: RunOptions,
-    folder: Option<SpoolFolder<'_>>,
-) -> Result<(Ports, RunSpool, BlankTotals), RelayFault>
-    ensures { IfErr result (λ fault. is_start_fault fault ≡ true) }
-{
-    let ports = bind_all(rt, alloc, settings, options)?;
-    let spool = match RunSpool::open(rt, alloc, settings.destinations(), folder) {
-        Ok(spool) => spool,
-        Err(fault) => {
-            drop(ports);
-            return Err(fault);
-        }
-    };
+    shape: &Shape,
+    process: &Process<'_>,
+) -> Result<(Inherited, BlankTotals), NoMemory> {
+    let files = open_files(rt, alloc, settings.destinations(), process.folder)?;
+    let inherited = Inherited::first(alloc, shape, files)?;
     match BlankTotals::new(alloc) {
-        Ok(blank) => Ok((ports, spool, blank)),
-        Err(_) => {
-            drop((ports, spool));
-            Err(RelayFault::NoMemory)
+        Ok(blank) => Ok((inherited, blank)),
+        Err(fault) => {
+            drop(inherited);
+            Err(fault)
         }
     }
 }

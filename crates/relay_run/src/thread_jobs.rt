@@ -4,21 +4,21 @@ ghost use Rattle.std.specs.Prelude.{◌≡◌, ◌≤◌, ◌<◌, true, length,
 ghost use Rattle.relay_run.specs.Running.{is_start_fault};
 
 use crate::listeners::BoundPort;
+use crate::parting_job::PartingJob;
+use crate::parting_setup::add_parting;
 use crate::receiver_job::ReceiverJob;
 use crate::receiver_setup::add_receivers;
 use crate::relay::{Parts, Relay, Seats};
 use crate::runtime::RelayRuntime;
 use crate::sender_job::SenderJob;
 use crate::sender_setup::add_senders;
-use crate::spool_folder::RunSpool;
 use crate::threads::Jobs;
 use locked_queues::{DoorRecord, Set};
 use mio_loops::Readiness;
 use receivers::ReceiverControl;
 use relay_base::{NoMemory, put};
 use relay_files::RelayFault;
-use relay_watchers::{LogJob, ReceiverLog, StatusJob, watchers_of};
-use status_server::StatusListener;
+use relay_watchers::{LogJob, ReceiverLog, StatusJob, StatusServer, Watched, watchers_of};
 use std::alloc::Global;
 use std::io::Write;
 use std::sync::Arc;
@@ -29,6 +29,7 @@ pub(crate) struct ThreadJobs<'x, B: Set, R: RelayRuntime, L> {
     pub(crate) jobs: Jobs<
         ReceiverJob<'x, B, R>,
         SenderJob<'x, B, R>,
+        PartingJob<'x, R>,
         LogJob<'x, B, L>,
         StatusJob<'x, B>,
     >,
@@ -43,6 +44,7 @@ impl<'x, B: Set, R: RelayRuntime, L> ThreadJobs<'x, B, R, L> {
             jobs: Jobs {
                 receiving: Vec::new(alloc),
                 sending: Vec::new(alloc),
+                parting: None,
                 logging: None,
                 status: None,
             },
@@ -63,6 +65,7 @@ impl<'x, B: Set, R: RelayRuntime, L: Drop> ThreadJobs<'x, B, R, L> {
         let Jobs {
             receiving: _receiving,
             sending: _sending,
+            parting: _parting,
             logging: _logging,
             status: _status,
         } = jobs;
@@ -109,32 +112,38 @@ fn add_jobs<'x, B: Set, R: RelayRuntime, L: Write + Drop>(
         seats,
         receivers,
         watches,
-        spool,
+        gone_watch,
         status,
         log,
+        news,
+        logged,
     } = parts;
-    let mut spool = spool;
     let mut logs = Vec::new(maker.alloc);
-    let added = add_receivers_and_senders(
-        maker, seats, watches, receivers, &mut spool, made, &mut logs,
-    );
-    let news = spool.news(maker.alloc);
-    drop(spool);
-    match added {
-        Ok(()) => {
-            let Jobs {
-                logging,
-                status: serving,
-                ..
-            } = &mut made.jobs;
-            Ok(add_watching(maker, logs, news, status, log, logging, serving)?)
-        }
-        Err(fault) => {
-            drop(logs);
-            drop(news);
-            drop((status, log));
-            Err(fault)
-        }
+    let added = add_receivers_and_senders(maker, seats, watches, receivers, made, &mut logs);
+    resume_logs(&mut logs, logged);
+    if let Err(fault) = added {
+        drop((logs, news));
+        drop((status, log, gone_watch));
+        return Err(fault);
+    }
+    let Jobs {
+        parting,
+        logging,
+        status: serving,
+        ..
+    } = &mut made.jobs;
+    if let Err(fault) = add_parting(maker, gone_watch, parting) {
+        drop((logs, news));
+        drop((status, log));
+        return Err(fault);
+    }
+    Ok(add_watching(maker, logs, news, status, log, logging, serving)?)
+}
+
+/// What an earlier log has reported of each receiver is not reported again.
+fn resume_logs(logs: &mut Vec<ReceiverLog>, earlier: Vec<ReceiverLog>) {
+    for (log, earlier) in logs.as_mut_slice().iter_mut().zip(earlier) {
+        log.resume(earlier);
     }
 }
 
@@ -144,7 +153,6 @@ fn add_receivers_and_senders<'x, B: Set, R: RelayRuntime, L>(
     seats: Seats<B>,
     watches: Vec<Readiness>,
     ports: Vec<BoundPort>,
-    spool: &mut RunSpool,
     made: &mut ThreadJobs<'x, B, R, L>,
     logs: &mut Vec<ReceiverLog>,
 ) -> Result<(), RelayFault>
@@ -152,7 +160,7 @@ fn add_receivers_and_senders<'x, B: Set, R: RelayRuntime, L>(
 {
     let Seats { doors, outlets } = seats;
     match add_receivers(maker, doors, ports, made, logs) {
-        Ok(()) => add_senders(maker, outlets, watches, spool, &mut made.jobs.sending),
+        Ok(()) => add_senders(maker, outlets, watches, &mut made.jobs.sending),
         Err(fault) => {
             drop(outlets);
             drop(watches);
@@ -161,37 +169,28 @@ fn add_receivers_and_senders<'x, B: Set, R: RelayRuntime, L>(
     }
 }
 
-/// Adds the jobs of the log and of the status server, if there is an output and a listener for them.
+/// Adds the jobs of the log and of the status server, if there is an output and a server for them.
 fn add_watching<'x, B: Set, R, L: Write + Drop>(
     maker: &JobMaker<'x, B, R>,
     logs: Vec<ReceiverLog>,
-    news: Result<String, NoMemory>,
-    listener: Option<StatusListener>,
+    news: String,
+    server: Option<StatusServer>,
     log: Option<L>,
     logging: &mut Option<LogJob<'x, B, L>>,
     status: &mut Option<StatusJob<'x, B>>,
 ) -> Result<(), NoMemory> {
     let relay = maker.relay;
-    let news = match news {
-        Ok(news) => news,
-        Err(fault) => {
-            drop(logs);
-            drop((listener, log));
-            return Err(fault);
-        }
+    let watched = Watched {
+        queues: &relay.queues,
+        noted: relay.noted(),
+        gone: relay.gone.shown.as_slice(),
+        late_news: &relay.late_news,
+        size: relay.shape.size,
+        version: relay.shape.version(),
+        configuration: relay.configuration.sum(),
+        began: relay.began,
     };
-    let (log_job, status_job) = watchers_of(
-        maker.alloc,
-        &relay.queues,
-        relay.noted(),
-        relay.shape.size,
-        relay.shape.version(),
-        relay.configuration.sum(),
-        logs,
-        news,
-        log,
-        listener,
-    )?;
+    let (log_job, status_job) = watchers_of(maker.alloc, &watched, logs, news, log, server)?;
     put(logging, log_job);
     put(status, status_job);
     Ok(())

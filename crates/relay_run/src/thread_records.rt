@@ -9,6 +9,7 @@ use finished_run::ThreadLogs;
 use locked_queues::{DoorRecord, OutletRecord};
 use relay_base::{NoMemory, add};
 use relay_files::RelayFault;
+use relay_watchers::{LogEnd, StatusServer};
 use std::alloc::Global;
 
 /// What doors and outlets recorded, what receivers and senders logged, and the fault of a thread, if one had a fault.
@@ -18,6 +19,29 @@ pub(crate) struct Records {
     pub(crate) outlets: Vec<OutletRecord>,
     pub(crate) logs: ThreadLogs,
     pub(crate) fault: Option<RelayFault>,
+}
+
+impl Records {
+    /// Nothing is known of what the threads recorded. It takes no memory.
+    pub(crate) fn none(alloc: Global) -> Records {
+        Records {
+            doors: Vec::new(alloc),
+            outlets: Vec::new(alloc),
+            logs: ThreadLogs {
+                fed: Vec::new(alloc),
+                written: Vec::new(alloc),
+            },
+            fault: None,
+        }
+    }
+}
+
+/// What the threads of a run left: what they recorded, the log, if there is one, and the status server.
+#[derive(Drop)]
+pub(crate) struct RunLeft<O> {
+    pub(crate) records: Records,
+    pub(crate) log: Option<LogEnd<O>>,
+    pub(crate) server: Option<StatusServer>,
 }
 
 /// What the threads recorded, with the records of unused seats, and the first fault of a thread.

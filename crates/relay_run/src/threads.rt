@@ -1,28 +1,31 @@
 //! The threads of a relay: one for each receiver and each sender, and one for each that watches them.
 
 ghost use Rattle.std.specs.Prelude.{◌≡◌};
-ghost use Rattle.relay_run.specs.Running.{Served};
+ghost use Rattle.relay_run.specs.Running.{Served, opening};
 ghost use denote.Param.Send.{IsSync, IsSend};
 
 use crate::ending::{ThreadEnds, end_threads};
 use crate::first_thread::{FirstThread, serve_if};
+use crate::first_work::{FirstWork, WithOutput};
 use crate::thread_end::ThreadEnd;
 use finished_run::FedLog;
 use locked_queues::{DoorRecord, OutletRecord};
 use mio_loops::WriteLog;
 use run_state::{Signals, ThreadWork};
 use std::alloc::Global;
+use std::io::Write;
 use std::rt::Clock;
 use std::sync::Wait;
 use std::thread;
 use std::thread::{Builder, JoinHandle, Scope, Threads};
 
-/// The work of a relay's threads: those of its receivers and its senders, and those of the log and of the
-/// status server, if any.
+/// The work of a relay's threads: those of its receivers and its senders, that of the sender to destinations that are gone, and
+/// those of the log and of the status server, if any.
 #[derive(Drop)]
-pub(crate) struct Jobs<J, K, L, V> {
+pub(crate) struct Jobs<J, K, G, L, V> {
     pub(crate) receiving: Vec<J>,
     pub(crate) sending: Vec<K>,
+    pub(crate) parting: Option<G>,
     pub(crate) logging: Option<L>,
     pub(crate) status: Option<V>,
 }
@@ -33,16 +36,19 @@ struct SignalLink<'s> {
     signals: &'s Signals,
 }
 
-/// The handles of threads that were started, and whether all were.
+/// The handles of threads that were started, and whether all were. The log's thread leaves an `O`, and the status server's an
+/// `S`.
 #[derive(Drop)]
-pub(crate) struct StartedThreads {
+pub(crate) struct StartedThreads<O, S> {
     pub(crate) receivers: Vec<JoinHandle<ThreadEnd<DoorRecord, FedLog>>>,
     pub(crate) senders: Vec<JoinHandle<ThreadEnd<OutletRecord, Vec<WriteLog>>>>,
-    pub(crate) watchers: Vec<JoinHandle<()>>,
+    pub(crate) parting: Vec<JoinHandle<()>>,
+    pub(crate) logs: Vec<JoinHandle<O>>,
+    pub(crate) servers: Vec<JoinHandle<S>>,
     are_all: bool,
 }
 
-impl StartedThreads {
+impl<O, S> StartedThreads<O, S> {
     /// Waits until all receivers and senders have begun. Returns whether they have: false if a thread could not be started, or
     /// has not the memory to begin.
     fn wait_for_begun<R: Wait + Clock>(&self, rt: &R, signals: &Signals) -> bool {
@@ -51,26 +57,63 @@ impl StartedThreads {
     }
 }
 
-/// Starts a thread for each job, serves until the relay is stopped, and ends the threads.
-pub(crate) fn run_threads<
+/// Starts a thread for each job, and has the first one do its work, with this output, until the run has ended.
+pub(crate) fn run_all_threads<
     R: Threads + Wait + Clock + Sync,
     J: ThreadWork<R, ThreadEnd<DoorRecord, FedLog>> + Send + Drop,
     K: ThreadWork<R, ThreadEnd<OutletRecord, Vec<WriteLog>>> + Send + Drop,
-    L: ThreadWork<R, ()> + Send + Drop,
-    V: ThreadWork<R, ()> + Send + Drop,
-    M: FirstThread<R> + Drop,
->(rt: &R, alloc: Global, jobs: Jobs<J, K, L, V>, signals: &Signals, first: M) -> (ThreadEnds, M)
+    G: ThreadWork<R, ()> + Send + Drop,
+    L: ThreadWork<R, O> + Send + Drop,
+    V: ThreadWork<R, S> + Send + Drop,
+    O: Send + Drop,
+    S: Send + Drop,
+    A: FirstWork<R, O, S>,
+    W: Write,
+>(
+    rt: &R,
+    alloc: Global,
+    jobs: Jobs<J, K, G, L, V>,
+    signals: &Signals,
+    work: &mut A,
+    output: &mut W,
+) -> ThreadEnds
+    ensures { Served (opening (A.is_first work.old))
+        (W.contents output.old) (W.contents output.new) result.served }
+{
+    let first = WithOutput { work, output };
+    let (ends, first) = run_threads(rt, alloc, jobs, signals, first);
+    // Taken apart, it ends here: then it is known what its output has.
+    let WithOutput {
+        work: _work,
+        output: _output,
+    } = first;
+    ends
+}
+
+/// Starts a thread for each job, serves until the relay is stopped, and ends the threads.
+fn run_threads<
+    R: Threads + Wait + Clock + Sync,
+    J: ThreadWork<R, ThreadEnd<DoorRecord, FedLog>> + Send + Drop,
+    K: ThreadWork<R, ThreadEnd<OutletRecord, Vec<WriteLog>>> + Send + Drop,
+    G: ThreadWork<R, ()> + Send + Drop,
+    L: ThreadWork<R, O> + Send + Drop,
+    V: ThreadWork<R, S> + Send + Drop,
+    O: Send + Drop,
+    S: Send + Drop,
+    M: FirstThread<R, O, S> + Drop,
+>(rt: &R, alloc: Global, jobs: Jobs<J, K, G, L, V>, signals: &Signals, first: M) -> (ThreadEnds, M)
     ensures same { M.which result.1 ≡ M.which first }
-    ensures served { Served (M.written first) (M.written result.1) result.0.served }
+    ensures served { Served (M.opening first) (M.written first) (M.written result.1) result.0.served }
 {
     let link = SignalLink { signals };
     thread::scope(
         thread::scope_env(),
         rt,
         move |scope| -> (ThreadEnds, M)
-            requires { IsSync R.row × IsSend J.row × IsSend K.row × IsSend L.row × IsSend V.row }
+            requires { IsSync R.row × IsSend J.row × IsSend K.row × IsSend G.row × IsSend L.row
+                × IsSend V.row × IsSend O.row × IsSend S.row }
             ensures same { M.which result.1 ≡ M.which first }
-            ensures served { Served (M.written first) (M.written result.1) result.0.served }
+            ensures served { Served (M.opening first) (M.written first) (M.written result.1) result.0.served }
         {
             let mut first = first;
             let ends = run_in_scope(scope, rt, alloc, jobs, link, &mut first);
@@ -86,19 +129,22 @@ fn run_in_scope<
     R: Threads + Wait + Clock + Sync,
     J: ThreadWork<R, ThreadEnd<DoorRecord, FedLog>> + Send + Drop + 's,
     K: ThreadWork<R, ThreadEnd<OutletRecord, Vec<WriteLog>>> + Send + Drop + 's,
-    L: ThreadWork<R, ()> + Send + Drop + 's,
-    V: ThreadWork<R, ()> + Send + Drop + 's,
-    M: FirstThread<R>,
+    G: ThreadWork<R, ()> + Send + Drop + 's,
+    L: ThreadWork<R, O> + Send + Drop + 's,
+    V: ThreadWork<R, S> + Send + Drop + 's,
+    O: Send + Drop + 's,
+    S: Send + Drop + 's,
+    M: FirstThread<R, O, S>,
 >(
     scope: &Scope<'s, E>,
     rt: &'s R,
     alloc: Global,
-    jobs: Jobs<J, K, L, V>,
+    jobs: Jobs<J, K, G, L, V>,
     link: SignalLink<'s>,
     first: &mut M,
 ) -> ThreadEnds
     ensures same { M.which first.new ≡ M.which first.old }
-    ensures served { Served (M.written first.old) (M.written first.new) result.served }
+    ensures served { Served (M.opening first.old) (M.written first.old) (M.written first.new) result.served }
 {
     let started = start_all(scope, rt, alloc, jobs, link);
     let are_begun = started.wait_for_begun(rt, link.signals);
@@ -113,31 +159,37 @@ fn start_all<
     R: Threads + Wait + Clock + Sync,
     J: ThreadWork<R, ThreadEnd<DoorRecord, FedLog>> + Send + Drop + 's,
     K: ThreadWork<R, ThreadEnd<OutletRecord, Vec<WriteLog>>> + Send + Drop + 's,
-    L: ThreadWork<R, ()> + Send + Drop + 's,
-    V: ThreadWork<R, ()> + Send + Drop + 's,
+    G: ThreadWork<R, ()> + Send + Drop + 's,
+    L: ThreadWork<R, O> + Send + Drop + 's,
+    V: ThreadWork<R, S> + Send + Drop + 's,
+    O: Send + Drop + 's,
+    S: Send + Drop + 's,
 >(
     scope: &Scope<'s, E>,
     rt: &'s R,
     alloc: Global,
-    jobs: Jobs<J, K, L, V>,
+    jobs: Jobs<J, K, G, L, V>,
     link: SignalLink<'s>,
-) -> StartedThreads {
+) -> StartedThreads<O, S> {
     let Jobs {
         receiving,
         sending,
+        parting,
         logging,
         status,
     } = jobs;
     let (receivers, are_receivers) = start_each(scope, rt, alloc, receiving, link);
     let (senders, are_senders) = start_each(scope, rt, alloc, sending, link);
-    let mut watchers = Vec::new(alloc);
-    let is_logging = start_if(scope, rt, alloc, logging, link, &mut watchers);
-    let is_status = start_if(scope, rt, alloc, status, link, &mut watchers);
+    let (parting, is_parting) = start_if(scope, rt, alloc, parting, link);
+    let (logs, is_logging) = start_if(scope, rt, alloc, logging, link);
+    let (servers, is_status) = start_if(scope, rt, alloc, status, link);
     StartedThreads {
         receivers,
         senders,
-        watchers,
-        are_all: are_receivers && are_senders && is_logging && is_status,
+        parting,
+        logs,
+        servers,
+        are_all: are_receivers && are_senders && is_parting && is_logging && is_status,
     }
 }
 
@@ -163,19 +215,26 @@ fn start_each<
     (handles, are_all)
 }
 
-/// Starts the thread of a job, if there is one. Returns whether it has started and kept it.
-fn start_if<'s, E, R: Threads + Wait + Clock + Sync, J: ThreadWork<R, ()> + Send + Drop + 's>(
+/// Starts the thread of a job, if there is one. Returns its handle, and whether it has started and kept it.
+fn start_if<
+    's,
+    E,
+    R: Threads + Wait + Clock + Sync,
+    T: Send + Drop + 's,
+    J: ThreadWork<R, T> + Send + Drop + 's,
+>(
     scope: &Scope<'s, E>,
     rt: &'s R,
     alloc: Global,
     job: Option<J>,
     link: SignalLink<'s>,
-    handles: &mut Vec<JoinHandle<()>>,
-) -> bool {
-    match job {
-        Some(job) => start_thread(scope, rt, alloc, job, link, handles),
+) -> (Vec<JoinHandle<T>>, bool) {
+    let mut handles = Vec::new(alloc);
+    let is_started = match job {
+        Some(job) => start_thread(scope, rt, alloc, job, link, &mut handles),
         None => true,
-    }
+    };
+    (handles, is_started)
 }
 
 /// Starts the thread of a job, and keeps its handle. Returns whether it could.

@@ -8,6 +8,8 @@
 
 mod dest_rest;
 mod dest_track;
+mod gone_dest;
+mod late_news;
 mod log_job;
 mod log_writes;
 mod process;
@@ -17,8 +19,10 @@ mod status_history;
 mod status_job;
 mod watchers;
 
-pub use log_job::LogJob;
+pub use gone_dest::GoneDest;
+pub use late_news::LateNews;
+pub use log_job::{LogEnd, LogJob};
 pub use process::SystemFacts;
 pub use receiver_log::ReceiverLog;
-pub use status_job::StatusJob;
-pub use watchers::watchers_of;
+pub use status_job::{StatusJob, StatusServer};
+pub use watchers::{Watched, watchers_of};

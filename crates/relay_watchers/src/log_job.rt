@@ -3,7 +3,9 @@
 ghost use Rattle.std.specs.Prelude.{◌≡◌, ◌<◌, length};
 
 use crate::dest_rest::{DestRest, RestOfAll};
-use crate::log_writes::{write_dest_end, write_line};
+use crate::gone_dest::GoneDest;
+use crate::late_news::LateNews;
+use crate::log_writes::{write_dest_end, write_gone_end, write_line};
 use crate::receiver_log::ReceiverLog;
 use conf_text::Dest;
 use locked_queues::{MOST_SENDERS, Queues, Set};
@@ -19,6 +21,7 @@ use std::io::Write;
 use std::mem;
 use std::rt::Clock;
 use std::sync::Wait;
+use std::time::Instant;
 
 /// The milliseconds for which the thread sleeps at most; and how many times it does between two looks at the
 /// destinations: a second. A stop wakes it.
@@ -35,19 +38,34 @@ struct ReportedDest {
     is_sent: bool,
 }
 
-/// The log to be written: its destinations, where their events are noted, its receivers, and its output.
+/// What a log that has ended leaves to that of the next run: its output, and what it has reported of the receivers.
+#[derive(Drop)]
+pub struct LogEnd<L> {
+    /// The output.
+    pub output: L,
+    /// The receivers.
+    pub receivers: Vec<ReceiverLog>,
+}
+
+/// The log to be written: its destinations, where their events are noted, those that are gone, its receivers, its first lines,
+/// its output, and since when the milliseconds of a run count.
 #[derive(Drop)]
 pub struct LogJob<'x, B: Set, L> {
     queues: &'x Queues<B>,
     noted: DestSources<'x>,
+    gone: &'x [GoneDest],
+    late_news: &'x LateNews,
     size: usize,
     reported: Vec<ReportedDest>,
     receivers: Vec<ReceiverLog>,
+    // Of how many of the destinations that are gone the log has reported the end, a bit each.
+    gone_reported: u64,
     // The senders that the log has reported as out of memory, a bit each.
     lost_senders: u64,
     // The first lines.
     news: String,
     output: L,
+    began: Option<Instant>,
     ghost all: { length noted.dests.now ≡ B.dests },
 }
 
@@ -69,50 +87,65 @@ impl ReportedDest {
     }
 }
 
-/// What the log reported last of each of this many destinations: nothing yet.
-fn nothing_reported(alloc: Global, dests: usize) -> Result<Vec<ReportedDest>, NoMemory> {
+/// What the log has reported of these destinations: what has happened to each up to now.
+fn reported_of(alloc: Global, noted: DestSources<'_>) -> Result<Vec<ReportedDest>, NoMemory> {
     let mut reported = Vec::new(alloc);
-    for _ in 0..dests {
-        let none = ReportedDest {
-            dest: LoggedDest::new(),
+    for place in 0..noted.dests.len() {
+        let dest = ReportedDest {
+            dest: logged_at(noted, place),
             lookup: LoggedLookup::new(),
             is_sent: false,
         };
-        add(&mut reported, none)?;
+        add(&mut reported, dest)?;
     }
     Ok(reported)
 }
 
+/// What the log has reported of the destination of a place: what has happened to it up to now.
+fn logged_at(noted: DestSources<'_>, place: usize) -> LoggedDest {
+    match (noted.notes.get(place), noted.earlier.get(place)) {
+        (Some(notes), Some(earlier)) => LoggedDest::after(&notes.status(earlier.dropped, true)),
+        _ => LoggedDest::new(),
+    }
+}
+
 impl<'x, B: Set, L: Write + Drop> LogJob<'x, B, L> {
-    /// The log of these destinations, all of them, with this size of their queues, and of these receivers.
-    /// It has reported nothing, and begins with these news. Refuses if out of memory.
+    /// The log of these destinations, all of them, with this size of their queues, of these receivers, and of these
+    /// destinations that are gone. It begins with these news. Refuses if out of memory.
     fn new(
         alloc: Global,
         queues: &'x Queues<B>,
         noted: DestSources<'x>,
+        gone: &'x [GoneDest],
+        late_news: &'x LateNews,
         size: usize,
         receivers: Vec<ReceiverLog>,
         news: String,
         output: L,
+        began: Option<Instant>,
     ) -> Result<LogJob<'x, B, L>, NoMemory>
         requires all { length noted.dests.now ≡ B.dests }
     {
-        let reported = nothing_reported(alloc, noted.dests.len())?;
+        let reported = reported_of(alloc, noted)?;
         Ok(LogJob {
             queues,
             noted,
+            gone,
+            late_news,
             size,
             reported,
             receivers,
+            gone_reported: 0,
             lost_senders: 0,
             news,
             output,
+            began,
         })
     }
 
     /// Looks at all once a second, until the senders stop.
     fn look_until_stopped<R: Wait + Clock>(&mut self, rt: &R, alloc: Global, signals: &Signals) {
-        let times = SystemTimes::new(rt);
+        let times = SystemTimes::since(rt, self.began);
         for _ in rt.forever() {
             if signals.senders_stop() {
                 return;
@@ -120,8 +153,38 @@ impl<'x, B: Set, L: Write + Drop> LogJob<'x, B, L> {
             pause(rt, signals);
             self.look_at_all(rt, alloc, signals, times.millis());
             self.write_sent(alloc, signals);
+            self.write_others(rt, alloc);
         }
         unreachable!()
+    }
+
+    /// Writes what the first thread has for the log, and what became of the destinations that are gone, of each once.
+    fn write_others<R: Wait>(&mut self, rt: &R, alloc: Global) {
+        if let Some(text) = self.late_news.take(rt) {
+            write_line(&mut self.output, Ok(text));
+        }
+        let mut bit: u64 = 1;
+        for gone in self.gone {
+            if let (Some(end), 0) = (gone.notes.end(), self.gone_reported & bit) {
+                self.gone_reported |= bit;
+                write_gone_end(&mut self.output, alloc, &gone.dest, end);
+            }
+            bit = bit.wrapping_mul(2);
+        }
+    }
+
+    /// Writes the news of all, once receivers and senders have ended, and another run goes on with what they held.
+    fn write_last_news<R: Wait + Clock>(&mut self, rt: &R, alloc: Global, signals: &Signals) {
+        let millis = SystemTimes::since(rt, self.began).millis();
+        self.write_losses(alloc, signals);
+        for place in 0..self.noted.dests.len() {
+            let line = self.lines_of(rt, alloc, place);
+            write_line(&mut self.output, line);
+        }
+        for receiver in self.receivers.as_mut_slice().iter_mut() {
+            write_line(&mut self.output, receiver.lines(alloc, millis));
+        }
+        self.write_others(rt, alloc);
     }
 
     /// Looks at each destination and each receiver once, and writes at most one line of each kind for it. Once
@@ -160,7 +223,8 @@ impl<'x, B: Set, L: Write + Drop> LogJob<'x, B, L> {
             noted.notes.get(place),
             self.reported.get_mut(place),
         ) {
-            let now = notes.status(counts.dropped, has_room);
+            let dropped = noted.counts_at(place, counts).dropped;
+            let now = notes.status(dropped, has_room);
             reported.push_news(&mut line, &noted.dests[place], &now)?;
         }
         Ok(line)
@@ -209,6 +273,7 @@ impl<'x, B: Set, L: Write + Drop> LogJob<'x, B, L> {
         for receiver in self.receivers.as_slice() {
             write_line(&mut self.output, receiver.last_lines(alloc));
         }
+        self.write_others(rt, alloc);
         if let Some(end) = self.noted.end {
             self.write_unsent(rt, alloc, signals, end);
         }
@@ -220,7 +285,7 @@ impl<'x, B: Set, L: Write + Drop> LogJob<'x, B, L> {
         let noted = self.noted;
         let given_up = signals.given_up();
         let mut bit: u64 = 1;
-        let unsent = Unsent::new(self.queues, noted.dests.len(), noted.notes, end);
+        let unsent = Unsent::new(self.queues, noted, end);
         let mut all = RestOfAll::none();
         for place in 0..noted.dests.len() {
             let left = unsent.left_at(rt, place);
@@ -233,19 +298,28 @@ impl<'x, B: Set, L: Write + Drop> LogJob<'x, B, L> {
     }
 }
 
-impl<'x, B: Set, L: Write + Drop, R: Wait + Clock> ThreadWork<R, ()> for LogJob<'x, B, L> {
+impl<'x, B: Set, L: Write + Drop, R: Wait + Clock> ThreadWork<R, LogEnd<L>> for LogJob<'x, B, L> {
     fn name(&self, alloc: Global) -> Result<String, AllocError> {
         String::from_str(alloc, "log")
     }
 
-    fn work(self, rt: &R, alloc: Global, signals: &Signals) {
+    fn work(self, rt: &R, alloc: Global, signals: &Signals) -> LogEnd<L> {
         let mut job = self;
         let news = mem::replace(&mut job.news, String::new(alloc));
         write_line(&mut job.output, Ok(news));
         job.look_until_stopped(rt, alloc, signals);
         wait_for_end(rt, signals);
-        job.write_end(rt, alloc, signals);
-        drop(job);
+        if signals.is_handing() {
+            job.write_last_news(rt, alloc, signals);
+        } else {
+            job.write_end(rt, alloc, signals);
+        }
+        let LogJob {
+            receivers,
+            output,
+            ..
+        } = job;
+        LogEnd { output, receivers }
     }
 }
 
@@ -279,21 +353,27 @@ fn lost_sender_line(alloc: Global, number: usize) -> Result<String, AllocError> 
     Ok(line)
 }
 
-/// The log of destinations, all of them, and of receivers, if one is to be written.
+/// The log of destinations, all of them, of receivers, and of destinations that are gone, if one is to be written.
 pub(crate) fn log_to<'x, B: Set, L: Write + Drop>(
     alloc: Global,
     queues: &'x Queues<B>,
     noted: DestSources<'x>,
+    gone: &'x [GoneDest],
+    late_news: &'x LateNews,
     size: usize,
     receivers: Vec<ReceiverLog>,
     news: String,
     log: Option<L>,
+    began: Option<Instant>,
 ) -> Result<Option<LogJob<'x, B, L>>, NoMemory>
     requires all { length noted.dests.now ≡ B.dests }
 {
     match log {
         Some(output) => {
-            Ok(Some(LogJob::new(alloc, queues, noted, size, receivers, news, output)?))
+            let job = LogJob::new(
+                alloc, queues, noted, gone, late_news, size, receivers, news, output, began,
+            );
+            Ok(Some(job?))
         }
         None => Ok(None),
     }

@@ -2,6 +2,7 @@
 
 use conf_text::Dest;
 use log_lines::{DestEnd, RelayEnd, push_dest_end_line, push_relay_end_line};
+use run_state::GoneEnd;
 use std::alloc::{AllocError, Global};
 use std::io::Write;
 
@@ -22,6 +23,22 @@ pub(crate) fn write_dest_end<L: Write>(
 ) {
     if let Some(end) = end {
         write_line(output, dest_end_line(alloc, dest, end));
+    }
+}
+
+/// Writes what became of what was held for a destination that is gone.
+pub(crate) fn write_gone_end<L: Write>(output: &mut L, alloc: Global, dest: &Dest, end: GoneEnd) {
+    if end.spooled > 0 {
+        let spooled = DestEnd::GoneSpooled {
+            datapoints: end.spooled,
+        };
+        write_dest_end(output, alloc, dest, Some(spooled));
+    }
+    if end.unsent > 0 || end.spooled == 0 {
+        let unsent = DestEnd::GoneUnsent {
+            datapoints: end.unsent,
+        };
+        write_dest_end(output, alloc, dest, Some(unsent));
     }
 }
 

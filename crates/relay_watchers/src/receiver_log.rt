@@ -41,6 +41,26 @@ impl ReceiverLog {
         }
     }
 
+    /// What an earlier log has reported of it is not reported again.
+    pub fn resume(&mut self, earlier: ReceiverLog) {
+        let ReceiverLog {
+            name: _,
+            unit: _,
+            notes: _,
+            logged,
+            counts,
+            refusals,
+            losses,
+            example,
+            is_lost: _,
+        } = earlier;
+        self.logged = logged;
+        self.counts = counts;
+        self.refusals = refusals;
+        self.losses = losses;
+        self.example = example;
+    }
+
     /// The same receiver, for the status. Refuses if out of memory.
     fn watched(&self) -> Result<WatchedReceiver, NoMemory> {
         Ok(WatchedReceiver {

@@ -6,9 +6,10 @@ use crate::dest_track::{DestLook, DestTrack};
 use crate::receiver_track::ReceiverTrack;
 use dest_queue::Counts;
 use log_lines::{DestStatus, ReceiverCounts};
-use relay_base::{NoMemory, add};
+use relay_base::{DestId, NoMemory, add};
 use status_page::{Rates, Sample};
 use std::alloc::{AllocError, Global};
+use std::mem;
 
 /// How many samples are kept.
 pub(crate) const MOST_SAMPLES: usize = 150;
@@ -60,6 +61,23 @@ impl StatusHistory {
             receivers: Vec::new(alloc),
             samples: Vec::new(alloc),
         }
+    }
+
+    /// From now on there are other destinations: at each of these places is what was seen of the one that was at that place, if
+    /// it was there. If out of memory, nothing was seen of any.
+    pub(crate) fn keep_dests(&mut self, alloc: Global, kept: &[Option<DestId>]) {
+        let mut before = mem::replace(&mut self.dests, Vec::new(alloc));
+        let mut tracks = Vec::new(alloc);
+        for place in kept {
+            let track = match place {
+                Some(place) => track_at(alloc, &mut before, *place),
+                None => DestTrack::new(alloc),
+            };
+            if add(&mut tracks, track).is_err() {
+                return;
+            }
+        }
+        self.dests = tracks;
     }
 
     /// Whether the next look is due at these milliseconds.
@@ -167,6 +185,14 @@ impl StatusHistory {
             samples.push(*sample)?;
         }
         Ok(samples)
+    }
+}
+
+/// What was seen of the destination of a place, which is not seen there again.
+fn track_at(alloc: Global, tracks: &mut Vec<DestTrack>, place: DestId) -> DestTrack {
+    match tracks.get_mut(place.0) {
+        Some(track) => mem::replace(track, DestTrack::new(alloc)),
+        None => DestTrack::new(alloc),
     }
 }
 

@@ -23,6 +23,7 @@ use std::hash::RandomState;
 use std::random::RandomSource;
 use std::rt::Clock;
 use std::sync::Wait;
+use std::time::Instant;
 
 /// How many milliseconds a turn waits at most for a connection: so late the thread sees that it is to stop.
 const MOST_WAIT_MS: u64 = 20;
@@ -65,6 +66,14 @@ impl<'x, B: Set> StatusWatch<'x, B> {
         }
     }
 
+    /// What the queues of a destination, which exists, have counted in all runs.
+    fn counts_at<R: Wait>(&self, rt: &R, place: usize) -> Counts
+        requires place { place < length self.now.noted.dests.now }
+    {
+        self.noted
+            .counts_at(place, self.queues.counts(rt, DestId(place)))
+    }
+
     /// The counts of all.
     fn totals<R: Wait>(&self, rt: &R, alloc: Global) -> Result<Totals, AllocError> {
         let mut totals = Totals {
@@ -73,7 +82,7 @@ impl<'x, B: Set> StatusWatch<'x, B> {
             receivers: Vec::new(alloc),
         };
         for place in 0..self.noted.dests.len() {
-            let counts = self.queues.counts(rt, DestId(place));
+            let counts = self.counts_at(rt, place);
             totals.queues.push(counts)?;
             if let Some(notes) = self.noted.notes.get(place) {
                 totals.dests.push(notes.status(counts.dropped, true))?;
@@ -96,7 +105,7 @@ impl<'x, B: Set> StatusWatch<'x, B> {
         requires place { place < length self.now.noted.dests.now }
     {
         let dest = self.noted.dests[place].clone()?;
-        let counts = self.queues.counts(rt, DestId(place));
+        let counts = self.counts_at(rt, place);
         let mut snapshot = unseen_dest(dest, counts, self.size as u64, times);
         if let Some(notes) = self.noted.notes.get(place) {
             let status = notes.status(counts.dropped, true);
@@ -277,50 +286,77 @@ impl<B: Set, R: Wait + SystemFacts> StatusTexts for StatusView<'_, '_, B, R> {
     }
 
     fn is_ending(&self) -> bool {
-        self.signals.receivers_stop()
+        self.signals.is_relay_ending()
     }
 }
 
-/// The status server that is to run: its listener, and what it shows.
+/// The status server: its listener with its connections, and what was seen of the relay. It goes from one run to the next.
 #[derive(Drop)]
-pub struct StatusJob<'x, B: Set> {
+pub struct StatusServer {
     listener: StatusListener,
-    watch: StatusWatch<'x, B>,
+    history: StatusHistory,
 }
 
-impl<'x, B: Set, R: Wait + Clock + RandomSource + SystemFacts> ThreadWork<R, ()>
+impl StatusServer {
+    /// The server of a listener, which has seen nothing.
+    pub fn new(alloc: Global, listener: StatusListener) -> StatusServer {
+        StatusServer {
+            listener,
+            history: StatusHistory::new(alloc),
+        }
+    }
+
+    /// The next run has other destinations: at each of these places is what was seen of the one that was at that place, if it
+    /// was there.
+    pub fn keep_dests(&mut self, alloc: Global, kept: &[Option<DestId>]) {
+        self.history.keep_dests(alloc, kept);
+    }
+}
+
+/// The status server that is to run, and what it shows; since when the milliseconds of a run count.
+#[derive(Drop)]
+pub struct StatusJob<'x, B: Set> {
+    server: StatusServer,
+    watch: StatusWatch<'x, B>,
+    began: Option<Instant>,
+}
+
+impl<'x, B: Set, R: Wait + Clock + RandomSource + SystemFacts> ThreadWork<R, StatusServer>
     for StatusJob<'x, B> {
     fn name(&self, alloc: Global) -> Result<String, AllocError> {
         String::from_str(alloc, "status")
     }
 
-    fn work(self, rt: &R, alloc: Global, signals: &Signals) {
+    /// Serves until receivers and senders have ended, or another run follows. Returns the server.
+    fn work(self, rt: &R, alloc: Global, signals: &Signals) -> StatusServer {
         let StatusJob {
-            mut listener,
+            mut server,
             watch,
+            began,
         } = self;
-        let mut history = StatusHistory::new(alloc);
-        serve_until_stopped(rt, alloc, signals, &mut listener, &watch, &mut history);
+        let clock = SystemTimes::since(rt, began);
+        serve_until_stopped(rt, alloc, signals, &clock, &mut server, &watch);
         drop(watch);
+        server
     }
 }
 
-/// Serves the connections, and takes the samples that are due, until receivers and senders have ended.
+/// Serves the connections, and takes the samples that are due, until receivers and senders have ended, or another run follows.
 fn serve_until_stopped<B: Set, R: Wait + Clock + RandomSource + SystemFacts>(
     rt: &R,
     alloc: Global,
     signals: &Signals,
-    listener: &mut StatusListener,
+    clock: &SystemTimes<'_, R>,
+    server: &mut StatusServer,
     watch: &StatusWatch<'_, B>,
-    history: &mut StatusHistory,
 ) {
-    let clock = SystemTimes::new(rt);
+    let StatusServer { listener, history } = server;
     let started = clock_seconds(rt).saturating_sub(clock.millis() / 1_000);
     let Ok(keys) = RandomState::new(rt) else {
         return;
     };
     for _ in rt.forever() {
-        if signals.watchers_stop() {
+        if signals.status_stops() {
             return;
         }
         let millis = clock.millis();
@@ -358,13 +394,18 @@ fn look_when_due<B: Set, R: Wait>(
     }
 }
 
-/// The status server of these, if there is a listener for it.
+/// The work of a status server that shows these, if there is one.
 pub(crate) fn status_at<'x, B: Set>(
-    listener: Option<StatusListener>,
+    server: Option<StatusServer>,
     watch: StatusWatch<'x, B>,
+    began: Option<Instant>,
 ) -> Option<StatusJob<'x, B>> {
-    match listener {
-        Some(listener) => Some(StatusJob { listener, watch }),
+    match server {
+        Some(server) => Some(StatusJob {
+            server,
+            watch,
+            began,
+        }),
         None => None,
     }
 }

@@ -2,36 +2,74 @@
 
 ghost use Rattle.std.specs.Prelude.{◌≡◌, length};
 
+use crate::gone_dest::GoneDest;
+use crate::late_news::LateNews;
 use crate::log_job::{LogJob, log_to};
 use crate::receiver_log::{ReceiverLog, watched_of};
-use crate::status_job::{StatusJob, StatusWatch, status_at};
+use crate::status_job::{StatusJob, StatusServer, StatusWatch, status_at};
 use locked_queues::{Queues, Set};
 use md5::DIGEST_LEN;
 use relay_base::NoMemory;
 use run_state::DestSources;
-use status_server::StatusListener;
 use std::alloc::Global;
 use std::io::Write;
+use std::time::Instant;
 
-/// The work of the log and that of the status server, of all destinations of a set, with this size of their queues, and
-/// of these receivers: none of a log without an output, and none of a status server without a listener. The status shows
-/// this version, and this checksum of the configuration, and the log begins with these news. Refuses if out of memory.
+/// What the threads that watch a run watch: its queues and its destinations, all of them, those that are gone, what the first
+/// thread has for the log, the size of the queues, the version that the status shows, the checksum of the configuration, and
+/// since when the milliseconds of a run count.
+#[derive(Clone, Copy)]
+pub struct Watched<'x, B: Set> {
+    /// The queues.
+    pub queues: &'x Queues<B>,
+    /// The destinations, with their events.
+    pub noted: DestSources<'x>,
+    /// The destinations that are gone.
+    pub gone: &'x [GoneDest],
+    /// What the first thread has for the log.
+    pub late_news: &'x LateNews,
+    /// The size of each queue.
+    pub size: usize,
+    /// The version that the status shows.
+    pub version: &'static str,
+    /// The checksum of the configuration.
+    pub configuration: [u8; DIGEST_LEN],
+    /// Since when the milliseconds of a run count.
+    pub began: Option<Instant>,
+}
+
+/// The work of the log and that of the status server of a run, and of these receivers: none of a log without an output, and
+/// none of a status server that is not there. The log begins with these news. Refuses if out of memory.
 pub fn watchers_of<'x, B: Set, L: Write + Drop>(
     alloc: Global,
-    queues: &'x Queues<B>,
-    noted: DestSources<'x>,
-    size: usize,
-    version: &'static str,
-    configuration: [u8; DIGEST_LEN],
+    watched: &Watched<'x, B>,
     receivers: Vec<ReceiverLog>,
     news: String,
     log: Option<L>,
-    listener: Option<StatusListener>,
+    server: Option<StatusServer>,
 ) -> Result<(Option<LogJob<'x, B, L>>, Option<StatusJob<'x, B>>), NoMemory>
-    requires all { length noted.dests.now ≡ B.dests }
+    requires all { length watched.now.noted.dests.now ≡ B.dests }
 {
     let shown = watched_of(alloc, receivers.as_slice())?;
-    let logging = log_to(alloc, queues, noted, size, receivers, news, log)?;
-    let watch = StatusWatch::new(queues, noted, size, shown, version, configuration);
-    Ok((logging, status_at(listener, watch)))
+    let logging = log_to(
+        alloc,
+        watched.queues,
+        watched.noted,
+        watched.gone,
+        watched.late_news,
+        watched.size,
+        receivers,
+        news,
+        log,
+        watched.began,
+    )?;
+    let watch = StatusWatch::new(
+        watched.queues,
+        watched.noted,
+        watched.size,
+        shown,
+        watched.version,
+        watched.configuration,
+    );
+    Ok((logging, status_at(server, watch, watched.began)))
 }

@@ -26,7 +26,10 @@ pub fn end_with_notes(
     fault: Option<RelayFault>,
 ) -> Status {
     let (paths, explain) = match invocation {
-        Invocation::Report { .. } | Invocation::Stop { .. } => return status,
+        // The notes of a reload come from the relay, which reads the files.
+        Invocation::Report { .. } | Invocation::Stop { .. } | Invocation::Reload { .. } => {
+            return status;
+        }
         Invocation::Pass {
             explain,
             ignores_files,
@@ -187,7 +190,7 @@ impl<'p> RereadFile<'p> {
         }
     }
 
-    fn of_given(
+    pub fn of_given(
         rt: &HostRuntime,
         alloc: Global,
         path: &'p Option<String>,

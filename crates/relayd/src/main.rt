@@ -15,6 +15,7 @@ mod files;
 mod log_output;
 mod memory_there;
 mod record_file;
+mod reload_files;
 mod spool_folder;
 mod system_faults;
 mod words;
@@ -30,6 +31,7 @@ use relay_commands::{HandedForm, check, replay, replay_lines, route, route_names
 use relay_files::{RelayFault, Status};
 use relay_run::{RunOptions, StatusOptions, SystemTables};
 use relay_watchers::SystemFacts;
+use reload_files::RelayFiles;
 use senders::Resolve;
 use spool::SpoolDisk;
 use spool_folder::own_folder;
@@ -146,6 +148,7 @@ where
                 log_output(rt, *threads, options.has_log),
                 recorder,
                 folder,
+                &RelayFiles::new(rt, paths),
             )?;
             Ok(match status {
                 Status::Done => recorded,
@@ -158,6 +161,11 @@ where
             check(alloc, &mut sources_at(rt, alloc, paths)?, &mut rt.stdout())?;
             Ok(admin::stop(rt, alloc, *admin, true))
         }
+        Invocation::Reload {
+            paths,
+            admin,
+            explain,
+        } => Ok(admin::reload(rt, alloc, *admin, paths, *explain)?),
     }
 }
 

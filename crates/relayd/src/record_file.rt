@@ -1,7 +1,7 @@
 //! The file of `--record`.
 
 use crate::file_limit::{ErrorRoom, file_limit};
-use finished_run::{FinishedRun, Recorder};
+use finished_run::{FinishedRun, Recorder, RunPlace};
 use relay_files::Status;
 use run_record::{RecordFault, record_run};
 use std::alloc::Global;
@@ -55,28 +55,37 @@ pub fn recorder_of<'a>(
 }
 
 impl Recorder for RecordFile<'_> {
-    fn take(self, alloc: Global, run: &FinishedRun<'_>) {
-        let RecordFile {
-            rt,
-            path,
-            part,
-            status,
-        } = self;
+    /// Writes the record of the last run to the file, and that of run `n` before it to the file with `.n` behind its name.
+    fn take(&mut self, alloc: Global, place: RunPlace, run: &FinishedRun<'_>) {
+        let rt = self.rt;
         match record_run(alloc, run) {
             Ok(script) => {
-                if write_record(rt, path, part.as_str(), script.as_str()).is_err() {
+                if !self.write(alloc, place, script.as_str()) {
                     say(rt, "record: cannot write");
-                    *status = Status::DeviceFault;
+                    *self.status = Status::DeviceFault;
                 }
             }
             Err(fault) => {
                 if rt.error_has_room(file_limit(rt), LONGEST_LINE) {
                     let _ = eprintln!(rt; "relayd: record: {fault}");
                 }
-                *status = status_of(fault);
+                *self.status = status_of(fault);
             }
         }
-        drop(part);
+    }
+}
+
+impl RecordFile<'_> {
+    /// Writes a record to the file of a run. Returns whether it could.
+    fn write(&self, alloc: Global, place: RunPlace, text: &str) -> bool {
+        let part = self.part.as_str();
+        match place {
+            RunPlace::Last => write_record(self.rt, self.path, part, text).is_ok(),
+            RunPlace::Followed { number } => match format!(in alloc; "{}.{number}", self.path) {
+                Ok(path) => write_record(self.rt, path.as_str(), part, text).is_ok(),
+                Err(_) => false,
+            },
+        }
     }
 }
 

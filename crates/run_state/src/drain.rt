@@ -1,6 +1,6 @@
 //! For whom a drain waits.
 
-ghost use Rattle.std.specs.Prelude.{◌≡◌, ◌≢◌, ℕ, ◌+◌, ◌*◌, ◌-◌, ◌^◌, ◌≤◌, ◌<◌, min, true};
+ghost use Rattle.std.specs.Prelude.{◌≡◌, ◌≢◌, ℕ, ◌+◌, ◌*◌, ◌-◌, ◌^◌, ◌≤◌, ◌<◌, min, true, length};
 ghost use Rattle.run_state.specs.Drain.{IsLook, IsNotWaitedFor, seen_of};
 
 use crate::signals::Signals;
@@ -78,7 +78,7 @@ impl Drain {
         ensures over { self.old.end ≤ millis → result ≡ true }
         // Before that it is over only if it waits for no destination, by what it saw of each.
         ensures not_before { result ≡ true → millis < self.old.end
-            → (place : ℕ) → place < min unsent.now.dests MOST_DESTINATIONS
+            → (place : ℕ) → place < min (length unsent.now.noted.dests.now) MOST_DESTINATIONS
             → IsNotWaitedFor millis self.old.end
             (seen_of self.old.progress place) (seen_of self.new.progress place) }
         ensures end { self.new.end ≡ self.old.end }

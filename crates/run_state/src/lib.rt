@@ -9,6 +9,9 @@
 mod counters;
 mod drain;
 mod end_state;
+mod gone_notes;
+mod rest_notes;
+mod run_notes;
 mod run_state;
 mod signals;
 mod spool_wait;
@@ -17,6 +20,9 @@ mod unsent;
 
 pub use drain::Drain;
 pub use end_state::EndState;
+pub use gone_notes::{GoneEnd, GoneNotes};
+pub use rest_notes::RestNotes;
+pub use run_notes::RunNotes;
 pub use run_state::{DestSources, RunState};
 pub use signals::{BeginNote, Signals, bit};
 pub use spool_wait::SpoolWait;

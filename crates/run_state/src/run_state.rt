@@ -4,23 +4,25 @@ ghost use Rattle.std.specs.Prelude.{◌≡◌};
 
 use crate::counters::counters;
 use crate::end_state::EndState;
+use crate::rest_notes::RestNotes;
+use crate::run_notes::RunNotes;
 use crate::signals::Signals;
 use conf_text::Dest;
+use dest_queue::{Counts, EarlierCounts};
 use log_lines::{DestNotes, ReceiverNotes};
-use relay_base::{NoMemory, add};
+use relay_base::NoMemory;
 use spool::SpoolNotes;
 use std::alloc::Global;
 use std::sync::Arc;
 use std::sync::atomic::AtomicU64;
 
-/// The signals between the threads, what each receiver notes, how many connections each receiver of lines holds, the events of
-/// the destinations, and, if what is queued at the end is not lost, what becomes of that.
+/// The signals between the threads, what is noted over all runs, how many connections each receiver of lines holds, and, if
+/// what is queued at the end is not lost, what becomes of that.
 #[derive(Drop)]
 pub struct RunState {
     signals: Signals,
-    receivers: Vec<Arc<ReceiverNotes>>,
+    notes: RunNotes,
     held: Vec<AtomicU64>,
-    notes: Vec<DestNotes>,
     end: Option<EndState>,
 }
 
@@ -31,28 +33,66 @@ pub struct DestSources<'x> {
     pub dests: &'x [Dest],
     /// The events of each.
     pub notes: &'x [DestNotes],
+    /// What the queues of each counted in runs that have ended.
+    pub earlier: &'x [EarlierCounts],
+    /// How much of what these left is not sent.
+    pub rests: &'x [RestNotes],
     /// What becomes of what is queued at the end; none if it is lost.
     pub end: Option<&'x EndState>,
 }
 
+impl<'x> DestSources<'x> {
+    /// What the queues of a destination have counted in all runs, with what that of this run has.
+    pub fn counts_at(&self, place: usize, counts: Counts) -> Counts {
+        match self.earlier.get(place) {
+            Some(earlier) => earlier.with_rest(self.rest_at(place), counts),
+            None => counts,
+        }
+    }
+
+    /// How many datapoints of ended runs wait to be taken in hand for a destination.
+    fn rest_at(&self, place: usize) -> u64 {
+        match self.rests.get(place) {
+            Some(rest) => rest.queued(),
+            None => 0,
+        }
+    }
+}
+
 impl RunState {
-    /// The state of a run with this many destinations, receivers, and receivers of lines, of which nothing has happened. It
-    /// drains for this many seconds at most, not at all with 0. Refuses if out of memory.
+    /// The state of a run with this many destinations, and receivers of lines, without notes yet. It drains for this many
+    /// seconds at most, not at all with 0. Refuses if out of memory.
     pub fn new(
         alloc: Global,
         dests: usize,
-        receivers: usize,
         line_receivers: usize,
         drain_seconds: u64,
         is_spooled: bool,
     ) -> Result<RunState, NoMemory> {
         Ok(RunState {
             signals: Signals::new(),
-            receivers: receivers_of(alloc, receivers)?,
+            notes: RunNotes::none(alloc),
             held: counters(alloc, line_receivers)?,
-            notes: events_of(alloc, dests)?,
             end: end_of(alloc, dests, drain_seconds, is_spooled)?,
         })
+    }
+
+    /// The state with these notes.
+    pub fn with_notes(self, notes: RunNotes) -> RunState {
+        let mut state = self;
+        state.notes = notes;
+        state
+    }
+
+    /// The notes, for the next run.
+    pub fn into_notes(self) -> RunNotes {
+        let RunState {
+            signals: _,
+            notes,
+            held: _,
+            end: _,
+        } = self;
+        notes
     }
 
     /// The signals between the threads.
@@ -62,7 +102,12 @@ impl RunState {
 
     /// What each receiver notes.
     pub fn receivers(&self) -> &[Arc<ReceiverNotes>] {
-        self.receivers.as_slice()
+        self.notes.receivers.as_slice()
+    }
+
+    /// How much of what ended runs left for each destination is not sent.
+    pub fn rests(&self) -> &[RestNotes] {
+        self.notes.rests.as_slice()
     }
 
     /// How many connections each receiver of lines holds.
@@ -89,28 +134,12 @@ impl RunState {
     {
         DestSources {
             dests,
-            notes: self.notes.as_slice(),
+            notes: self.notes.dests.as_slice(),
+            earlier: self.notes.earlier.as_slice(),
+            rests: self.notes.rests.as_slice(),
             end: self.end.as_ref(),
         }
     }
-}
-
-/// Where this many receivers note their events: no event yet.
-fn receivers_of(alloc: Global, receivers: usize) -> Result<Vec<Arc<ReceiverNotes>>, NoMemory> {
-    let mut notes = Vec::new(alloc);
-    for _ in 0..receivers {
-        add(&mut notes, Arc::new(alloc, ReceiverNotes::new())?)?;
-    }
-    Ok(notes)
-}
-
-/// Where the events of this many destinations are noted: no event yet.
-fn events_of(alloc: Global, dests: usize) -> Result<Vec<DestNotes>, NoMemory> {
-    let mut notes = Vec::new(alloc);
-    for _ in 0..dests {
-        add(&mut notes, DestNotes::new())?;
-    }
-    Ok(notes)
 }
 
 /// The end of a relay that drains, or spools; none for another one.

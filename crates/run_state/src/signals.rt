@@ -18,6 +18,10 @@ pub struct Signals {
     spooling: AtomicBool,
     senders: AtomicBool,
     watchers: AtomicBool,
+    // The status server is to stop.
+    status: AtomicBool,
+    // What the threads hold goes on in another run.
+    handing: AtomicBool,
     // How many of these stops were told: a thread that sleeps wakes when that changes.
     stops: AtomicU64,
     // The destinations that a drain gave up, a bit each.
@@ -37,6 +41,8 @@ impl Signals {
             spooling: AtomicBool::new(false),
             senders: AtomicBool::new(false),
             watchers: AtomicBool::new(false),
+            status: AtomicBool::new(false),
+            handing: AtomicBool::new(false),
             stops: AtomicU64::new(0),
             stuck: AtomicU64::new(0),
             slow: AtomicU64::new(0),
@@ -61,6 +67,16 @@ impl Signals {
         &self.watchers
     }
 
+    /// From now on what the threads hold goes on in the next run: nothing is closed, and nothing ends but this run.
+    pub fn begin_handing(&self) {
+        self.handing.store(true, Ordering::SeqCst);
+    }
+
+    /// Whether what the threads hold goes on in the next run.
+    pub fn is_handing(&self) -> bool {
+        self.handing.load(Ordering::SeqCst)
+    }
+
     /// Tells the receivers to stop.
     pub fn stop_receivers(&self) {
         self.tell(&self.receivers);
@@ -79,6 +95,16 @@ impl Signals {
     /// Tells the senders to stop.
     pub fn stop_senders(&self) {
         self.tell(&self.senders);
+    }
+
+    /// Tells the status server to stop, before the others: another run follows, and nothing is to wait for it meanwhile.
+    pub fn stop_status(&self) {
+        self.tell(&self.status);
+    }
+
+    /// Whether the status server is to stop.
+    pub fn status_stops(&self) -> bool {
+        self.status.load(Ordering::SeqCst) || self.watchers_stop()
     }
 
     /// Tells the threads that watch to stop.
@@ -117,9 +143,9 @@ impl Signals {
         (stuck, self.slow.load(Ordering::SeqCst))
     }
 
-    /// Whether the receivers are to stop, or have stopped: then the relay is about to end.
-    pub fn receivers_stop(&self) -> bool {
-        self.receivers.load(Ordering::SeqCst)
+    /// Whether the relay is about to end: the receivers are to stop, or have stopped, and no run follows.
+    pub fn is_relay_ending(&self) -> bool {
+        self.receivers.load(Ordering::SeqCst) && !self.is_handing()
     }
 
     /// Whether the senders give up their connections: they write to files, or are to stop, or have stopped.
@@ -208,9 +234,9 @@ impl<'s> BeginNote<'s> {
         }
     }
 
-    /// Whether the receivers are to stop, or have stopped.
+    /// Whether the receivers are to stop, or have stopped, and no run follows.
     pub fn is_receiving_over(&self) -> bool {
-        self.signals.receivers.load(Ordering::SeqCst)
+        self.signals.is_relay_ending()
     }
 
     /// It waits: if for the first time, it has begun.

@@ -1,11 +1,11 @@
 //! What remains to be sent.
 
-ghost use Rattle.std.specs.Prelude.{◌≡◌, ◌≤◌, ◌<◌};
+ghost use Rattle.std.specs.Prelude.{◌≡◌, ◌≤◌, ◌<◌, length};
 ghost use Rattle.run_state.specs.Unsent.{IsLeftOf, left_of};
 
 use crate::end_state::EndState;
+use crate::run_state::DestSources;
 use locked_queues::{Queues, Set};
-use log_lines::DestNotes;
 use relay_base::DestId;
 use spool::SpoolNotes;
 use std::sync::Wait;
@@ -15,28 +15,17 @@ use std::sync::Wait;
 #[derive(Drop)]
 pub struct Unsent<'x, B: Set> {
     queues: &'x Queues<B>,
-    dests: usize,
-    notes: &'x [DestNotes],
+    noted: DestSources<'x>,
     end: &'x EndState,
-    ghost few: { dests ≤ B.dests },
+    ghost few: { length noted.dests.now ≤ B.dests },
 }
 
 impl<'x, B: Set> Unsent<'x, B> {
-    /// What remains to be sent to this many destinations, whose connections note their events, and count what they took.
-    pub fn new(
-        queues: &'x Queues<B>,
-        dests: usize,
-        notes: &'x [DestNotes],
-        end: &'x EndState,
-    ) -> Unsent<'x, B>
-        requires few { dests ≤ B.dests }
+    /// What remains to be sent to these destinations, whose connections count what they took.
+    pub fn new(queues: &'x Queues<B>, noted: DestSources<'x>, end: &'x EndState) -> Unsent<'x, B>
+        requires few { length noted.dests.now ≤ B.dests }
     {
-        Unsent {
-            queues,
-            dests,
-            notes,
-            end,
-        }
+        Unsent { queues, noted, end }
     }
 
     /// For how many seconds the senders go on at most.
@@ -46,15 +35,15 @@ impl<'x, B: Set> Unsent<'x, B> {
 
     /// How many destinations there are.
     pub(crate) fn dests(&self) -> usize
-        ensures dests { result ≡ self.now.dests }
+        ensures dests { result ≡ length self.now.noted.dests.now }
         ensures few { result ≤ B.dests }
     {
-        self.dests
+        self.noted.dests.len()
     }
 
     /// Whether a destination is connected.
     pub(crate) fn is_up(&self, place: usize) -> bool {
-        match self.notes.get(place) {
+        match self.noted.notes.get(place) {
             Some(notes) => notes.status(0, true).is_up,
             None => false,
         }
@@ -78,9 +67,20 @@ impl<'x, B: Set> Unsent<'x, B> {
         }
     }
 
-    /// How many datapoints were queued for a destination, which exists, and not taken by its connections to the last
-    /// byte: they are queued or in its sender's hand.
+    /// How many datapoints were queued for a destination, which exists, in this run and in those that have ended, and not taken
+    /// by its connections to the last byte: they are queued or in hand.
     pub fn left_at<R: Wait>(&self, rt: &R, place: usize) -> u64
+        requires place { place < B.dests }
+    {
+        let rest = match self.noted.rests.get(place) {
+            Some(rest) => rest.left(),
+            None => 0,
+        };
+        rest.saturating_add(self.left_of_run(rt, place))
+    }
+
+    /// How many of them were queued in this run.
+    fn left_of_run<R: Wait>(&self, rt: &R, place: usize) -> u64
         requires place { place < B.dests }
         ensures left { IsLeftOf B.size result }
     {

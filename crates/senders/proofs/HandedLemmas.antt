@@ -1,5 +1,5 @@
 -- The batches that a supply handed over, among the steps of destinations.
-use Rattle.std.proofs.Common.{◌≡◌, ◌==◌, if◌then◌else◌, ℕ, true, false, List, [], ◌∷◌, ◌++◌, map, refl, sym, ap, subst}
+use Rattle.std.proofs.Common.{◌≡◌, ◌==◌, if◌then◌else◌, ℕ, true, false, List, [], ◌∷◌, ◌++◌, map, refl, sym, subst}
 use Rattle.std.proofs.lemmas.List.{map-append}
 use Rattle.dest_writer.specs.declared.driven.Driven.{Driven}
 use Rattle.line_text.specs.Datapoint.{Datapoint}

@@ -14,7 +14,7 @@ use Rattle.mio_loops.specs.WriteTurn.{TurnAt, IsTurn, AreTurns, WasServed, conne
 use Rattle.mio_loops.specs.WriteLoop.{IsLoopTurn}
 use Rattle.mio_loops.proofs.StepsLemmas.{after-append, allowed-append, log-append}
 use Rattle.mio_loops.proofs.LoopLemmas.{get-set-here, get-set-there, same, none-some}
-use Rattle.senders.specs.Steps.{DestStep, steps_at, record_after_all, HaveLimit, DestProgress, DestsProgress, AreHanded, SomeProgress, HaveNoTakes, ConnectionsProgress}
+use Rattle.senders.specs.Steps.{DestStep, steps_at, record_after_all, HaveLimit, DestProgress, DestsProgress, AreHanded, SomeProgress, ConnectionsProgress}
 use Rattle.senders.proofs.HandedLemmas.{steps_by, handed-then, none-handed, no_takes-then, turn-handed, handed-as}
 
 -- ---- the steps of one destination among those of all

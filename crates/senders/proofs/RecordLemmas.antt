@@ -16,7 +16,7 @@ use Rattle.mio_loops.proofs.LoopLemmas.{same, none-some}
 use Rattle.mio_loops.specs.declared.readiness.ReadinessFault.{ReadinessFault}
 use Rattle.mio_loops.specs.declared.readiness.ReadinessFault.TheVariants.{Device, NoMemory}
 use Rattle.line_text.specs.Datapoint.{Datapoint}
-use Rattle.senders.specs.Steps.{DestStep, DestsProgress, SomeProgress}
+use Rattle.senders.specs.Steps.{SomeProgress}
 use Rattle.senders.specs.Record.{RanAsHanded, EndsFor, no_log, AreNone}
 use Rattle.std.specs.Prelude.{IfSome}
 use Rattle.senders.specs.Laws.{batches_of, takes_of, UnsealedHasAllLaw, UnsealedIsWrittenLaw, UnsealedHasTakesLaw}

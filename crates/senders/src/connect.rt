@@ -1,7 +1,8 @@
 //! What connects to destinations.
 ghost use Rattle.std.specs.Prelude.{◌≡◌, IfErr};
 
-use mio_loops::ReadinessFault;
+use crate::kept_socket::KeptSocket;
+use mio_loops::{LeftWriter, ReadinessFault};
 use relay_base::DestId;
 use std::io::Write;
 
@@ -27,6 +28,24 @@ pub trait Connect {
     /// Whether a destination's connection is over: the last wait reported that its peer has closed it, or it takes no
     /// more.
     fn has_closed(&self, dest: DestId) -> bool;
+
+    /// Whether what the sender leaves goes on elsewhere: then no connection is half-closed, and none is waited for.
+    fn hands_over(&self) -> bool {
+        false
+    }
+
+    /// Takes what a sender that was stopped leaves of a destination: its writer, with the batch in hand, and the connection.
+    /// Called once for each destination, in their order. A connector that hands nothing on drops it.
+    fn hand_over(&mut self, _dest: DestId, _left: LeftWriter<Self::Sink>) {}
+
+    /// Gives up the connection of a destination for another sender, and returns its socket. `None` if it takes no more, or if
+    /// the connector hands nothing on; the connection is closed then.
+    fn take_back(&mut self, _dest: DestId, _sink: Self::Sink) -> Option<KeptSocket> {
+        None
+    }
+
+    /// The sender has ended, and asks for nothing more: what is still held for its destinations goes on elsewhere, if it does.
+    fn end(&mut self) {}
 
     /// Nothing more is written to the connections: their peers see the end once they have read what was written.
     fn end_writes(&mut self) {}

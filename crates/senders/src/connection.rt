@@ -73,6 +73,14 @@ impl Connection {
         }
     }
 
+    /// The socket, if there is a connection that may take more, and its stream is gone. It is no longer here then.
+    pub(crate) fn take_socket(&mut self) -> Option<TcpStream> {
+        if self.has_ended {
+            return None;
+        }
+        Arc::get_mut(&mut self.wire)?.take_socket()
+    }
+
     /// Nothing more is written: the store sees the end once it has read what was written.
     pub(crate) fn end_writes(&self) {
         if let Some(socket) = self.wire.socket() {

@@ -20,6 +20,16 @@ impl ConnectionLines {
         ConnectionLines { begun: 0 }
     }
 
+    /// The connection has taken this many bytes of a line that goes on.
+    pub(crate) fn within(begun: usize) -> ConnectionLines {
+        ConnectionLines { begun }
+    }
+
+    /// How many bytes of a begun line the connection has taken.
+    pub(crate) fn begun(&self) -> usize {
+        self.begun
+    }
+
     /// Those of the next bytes that may be written: all, or those up to the end of the first line that is longer.
     pub(crate) fn writable<'b>(&self, bytes: &'b [u8]) -> &'b [u8]
         ensures { length result.now ≤ length bytes.now }

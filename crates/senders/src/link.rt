@@ -7,6 +7,7 @@ use crate::lookup::{Lookup, LookupAnswer};
 use crate::wire::Wire;
 use conf_text::Dest;
 use log_lines::{DestNotes, Why};
+use mio::net::TcpStream;
 use mio_loops::Readiness;
 use relay_base::{DestId, NoMemory};
 use std::alloc::Global;
@@ -151,6 +152,21 @@ impl Link {
         };
         self.enter(stage);
         None
+    }
+
+    /// The socket of the connection, if there is one that may take more, and its stream was given up.
+    pub(crate) fn take_socket(&mut self) -> Option<TcpStream> {
+        match self.stage {
+            Stage::Connected => self.connection.take_socket(),
+            _ => None,
+        }
+    }
+
+    /// From now on this is the connection, which another sender made. Returns what its stream writes to.
+    pub(crate) fn keep(&mut self, socket: TcpStream) -> Option<Arc<Wire>> {
+        self.enter(Stage::Connected);
+        self.addresses.note_connected();
+        self.connection.open(socket)
     }
 
     /// Closes the last connection, which is lost, if it is not closed yet. One that has had its last line is closed

@@ -8,9 +8,9 @@ use crate::connect::Connect;
 use crate::counted_supply::CountedSupply;
 use crate::sender_record::SenderRecord;
 use crate::turn::take_turn;
-use mio_loops::{ReadinessFault, StopFlag, TimeSource, WriteLog, WriteLoop};
+use mio_loops::{LeftTaker, LeftWriter, ReadinessFault, StopFlag, TimeSource, WriteLog, WriteLoop};
 use queue_records::{MOST_DESTS, Supply};
-use relay_base::LARGEST_MESSAGE;
+use relay_base::{DestId, LARGEST_MESSAGE};
 use std::alloc::Global;
 use std::sync::Wait;
 
@@ -19,7 +19,7 @@ const LONGEST_END_MS: u64 = 1_000;
 
 /// Takes batches of the destinations that the supply owns, and writes them to their connections, until the
 /// stop flag is set: the sender ends after the turn that sees it. It does not write what is still queued or
-/// in hand.
+/// in hand: the connector is given that ([`Connect::hand_over`]).
 ///
 /// There are 1 to [`MOST_DESTS`] destinations, also those of other senders, and a batch has at most `limit`
 /// datapoints, 1 to [`LARGEST_MESSAGE`]. It ends early if the loop finds no memory at its beginning
@@ -41,18 +41,22 @@ pub fn send_batches<R: Wait, N: Connect + Drop, S: Supply + Drop, T: TimeSource,
     ensures fault { EndsFor result.fault result.logs.items (S.record_of supply)
         (S.record_of result.outlet) }
 {
+    let mut connector = connector;
     let Ok(mut writes) = WriteLoop::new(alloc, dests, limit) else {
+        connector.end();
         return SenderRecord {
             outlet: supply,
             logs: no_logs(alloc, dests),
             fault: Some(ReadinessFault::NoMemory),
         };
     };
-    let mut connector = connector;
     let mut supply = CountedSupply::new(supply);
     let fault = take_turns(rt, &mut connector, &mut writes, &mut supply, times, stop);
     end_connections(rt, &mut connector, times);
-    let logs = writes.close();
+    let logs = writes.release(&mut ToConnector {
+        connector: &mut connector,
+    });
+    connector.end();
     SenderRecord {
         outlet: supply.into_supply(),
         logs,
@@ -85,8 +89,24 @@ fn take_turns<R: Wait, N: Connect, S: Supply, T: TimeSource, F: StopFlag>(
     unreachable!()
 }
 
-/// Half-closes the connections, and waits until no peer may still send something, for [`LONGEST_END_MS`] at most.
+/// A connector that takes what a loop leaves.
+#[derive(Drop)]
+struct ToConnector<'c, N> {
+    connector: &'c mut N,
+}
+
+impl<N: Connect> LeftTaker<N::Sink> for ToConnector<'_, N> {
+    fn take_left(&mut self, dest: DestId, left: LeftWriter<N::Sink>) {
+        self.connector.hand_over(dest, left);
+    }
+}
+
+/// Half-closes the connections, and waits until no peer may still send something, for [`LONGEST_END_MS`] at most. Does nothing
+/// if the connections go on elsewhere.
 fn end_connections<R: Wait, N: Connect, T: TimeSource>(rt: &R, connector: &mut N, times: &T) {
+    if connector.hands_over() {
+        return;
+    }
     connector.end_writes();
     let end = times.millis().saturating_add(LONGEST_END_MS);
     for _ in rt.forever() {

@@ -3,17 +3,20 @@
 use crate::alarm::Alarm;
 use crate::connect::Connect;
 use crate::host_lookup::HostLookup;
+use crate::kept_socket::KeptSocket;
 use crate::link::Link;
 use crate::lookup::Lookup;
 use crate::resolve::Resolve;
 use crate::store_stream::StoreStream;
+use crate::wire::Wire;
 use conf_text::Dest;
 use log_lines::{DestNotes, Why};
+use mio::net::TcpStream;
 use mio_loops::{Readiness, ReadinessFault, Token};
 use relay_base::{DestId, NoMemory};
 use std::alloc::Global;
 use std::net::Net;
-use std::sync::Wait;
+use std::sync::{Arc, Wait};
 use std::thread::Threads;
 
 /// Connects to the destinations of one sender: of `n` senders, sender `k` has the destinations `k`, `k + n`
@@ -89,6 +92,60 @@ impl<'g, R: Net + Drop, L: Lookup + Drop> StoreConnector<'g, R, L> {
     /// destination that has none are not noted.
     pub fn set_notes(&mut self, notes: &'g [DestNotes]) {
         self.notes = notes;
+    }
+}
+
+impl<'g, R: Net + Drop, L: Lookup + Drop> StoreConnector<'g, R, L> {
+    /// The socket of a destination's connection, whose stream was given up after this many bytes of a begun line. `None` if
+    /// there is none, or if it takes no more.
+    fn take_socket(&mut self, dest: DestId, begun: usize) -> Option<KeptSocket> {
+        let Some(Some(link)) = self.links.get_mut(dest.0) else {
+            return None;
+        };
+        let socket = link.take_socket()?;
+        Some(KeptSocket { socket, begun })
+    }
+
+    /// Takes over the connection of a destination from another sender: it goes on here. `None` if the system does not watch it,
+    /// or the destination is not of this sender; the connection is lost then. It counts as made at these milliseconds if
+    /// nothing was noted of the destination before.
+    pub fn keep(&mut self, dest: DestId, kept: KeptSocket, millis: u64) -> Option<StoreStream<'g>> {
+        if let Some(notes) = self.notes.get(dest.0) {
+            notes.note_kept(millis);
+        }
+        let wire = self.watch(dest, kept.socket);
+        match wire {
+            Some(wire) => Some(StoreStream::resumed(wire, kept.begun, self.notes.get(dest.0))),
+            None => {
+                self.note_lost(dest, Why::NoReadiness);
+                None
+            }
+        }
+    }
+
+    /// From now on this socket, which is watched, is the connection of a destination. Returns what its stream writes to.
+    fn watch(&mut self, dest: DestId, socket: TcpStream) -> Option<Arc<Wire>> {
+        let Some(Some(link)) = self.links.get_mut(dest.0) else {
+            drop(socket);
+            return None;
+        };
+        let mut socket = socket;
+        if self
+            .readiness
+            .add_stream(&mut socket, Token(dest.0))
+            .is_err()
+        {
+            drop(socket);
+            return None;
+        }
+        link.keep(socket)
+    }
+
+    /// The connection of a destination is lost, which is noted.
+    fn note_lost(&self, dest: DestId, why: Why) {
+        if let Some(notes) = self.notes.get(dest.0) {
+            notes.note_lost(why);
+        }
     }
 }
 
@@ -218,6 +275,14 @@ impl<'g, R: Net + Drop, L: Lookup + Drop> Connect for StoreConnector<'g, R, L> {
     fn has_closed(&self, dest: DestId) -> bool {
         let closed = self.readiness.closed();
         closed.iter().any(|token| token.0 == dest.0) || is_over(&self.links, dest)
+    }
+
+    fn take_back(&mut self, dest: DestId, sink: StoreStream<'g>) -> Option<KeptSocket> {
+        let kept = self.take_socket(dest, sink.give_up());
+        if kept.is_none() {
+            self.note_lost(dest, Why::Closed);
+        }
+        kept
     }
 
     fn end_writes(&mut self) {

@@ -40,6 +40,34 @@ impl<'e> StoreStream<'e> {
         }
     }
 
+    /// A connection of another sender that goes on here, within a line of which it has taken this many bytes. Nothing is noted:
+    /// for the store nothing has changed.
+    pub(crate) fn resumed(
+        wire: Arc<Wire>,
+        begun: usize,
+        notes: Option<&'e DestNotes>,
+    ) -> StoreStream<'e> {
+        StoreStream {
+            wire,
+            lines: ConnectionLines::within(begun),
+            notes,
+            why: None,
+        }
+    }
+
+    /// Gives the connection up for another sender, and returns how many bytes of a begun line it has taken. It is no loss; its
+    /// socket stays with the connector ([`crate::StoreConnector::take_socket`]).
+    pub fn give_up(self) -> usize {
+        let StoreStream {
+            wire,
+            lines,
+            notes: _,
+            why: _,
+        } = self;
+        drop(wire);
+        lines.begun()
+    }
+
     /// The connection took these bytes, which is noted. It is half-closed if they end its last line.
     fn take(&mut self, bytes: &[u8]) {
         if let Some(notes) = self.notes {

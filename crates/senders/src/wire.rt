@@ -26,6 +26,14 @@ impl Wire {
         self.is_over.store(false, Ordering::SeqCst);
     }
 
+    /// The socket, if there is a connection that may take more. From now on there is none.
+    pub(crate) fn take_socket(&mut self) -> Option<TcpStream> {
+        if self.is_over() {
+            return None;
+        }
+        self.socket.take()
+    }
+
     /// The socket, if there is a connection.
     pub(crate) fn socket(&self) -> Option<&TcpStream> {
         self.socket.as_ref()

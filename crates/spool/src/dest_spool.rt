@@ -93,6 +93,13 @@ impl DestSpool {
         }
     }
 
+    /// The connection that the file went out on is gone, with whoever had it: what it did not take whole goes to the next one.
+    pub fn reconnect(&mut self) {
+        if let Some(held) = &mut self.held {
+            held.cursor.reconnect();
+        }
+    }
+
     /// Sends some of the earlier file to its connection. Once that took the last whole line, the file goes.
     pub fn send<D: SpoolDisk, W: Write + Drop>(
         &mut self,

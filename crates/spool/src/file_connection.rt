@@ -63,6 +63,15 @@ impl<W: Drop> FileConnection<W> {
         };
     }
 
+    /// Takes the connection out, if there is one: it may go on elsewhere ([`FileConnection::keep`]).
+    pub fn take(&mut self) -> Option<W>
+        ensures taken { result ≡ self.old }
+        ensures none { self.new ≡ None }
+    {
+        self.is_blocked = false;
+        self.sink.take()
+    }
+
     /// The connection is ready.
     pub fn note_ready(&mut self)
         ensures { self.new ≡ self.old }

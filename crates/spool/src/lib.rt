@@ -29,6 +29,6 @@ pub use file_sink::FileSink;
 pub use held_text::{HeldText, end_of_lines};
 pub use pieces::{SendOutcome, send_piece, send_pieces};
 pub use spool_disk::SpoolDisk;
-pub use spool_files::{SpoolFiles, is_of_no_destination, open_all};
+pub use spool_files::{SpoolFiles, is_of_no_destination, open_all, open_others};
 pub use spool_notes::{SpoolFailure, SpoolNotes};
 pub use turn::Turn;

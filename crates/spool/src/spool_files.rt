@@ -28,15 +28,39 @@ pub fn open_all<D: SpoolDisk>(
 ) -> Result<SpoolFiles, NoMemory> {
     let mut news = String::new(alloc);
     tell_strangers(disk, alloc, folder, dests, &mut news)?;
+    open_each(disk, alloc, folder, dests, &[], news)
+}
+
+/// The files of those of these destinations that are not known, as [`open_all`] opens those of all: the files of the others are
+/// open. What is of no destination is not named again.
+pub fn open_others<D: SpoolDisk>(
+    disk: &D,
+    alloc: Global,
+    folder: &str,
+    dests: &[Dest],
+    are_known: &[bool],
+) -> Result<SpoolFiles, NoMemory> {
+    open_each(disk, alloc, folder, dests, are_known, String::new(alloc))
+}
+
+/// The files of those of these destinations that are not known, with more news.
+fn open_each<D: SpoolDisk>(
+    disk: &D,
+    alloc: Global,
+    folder: &str,
+    dests: &[Dest],
+    are_known: &[bool],
+    news: String,
+) -> Result<SpoolFiles, NoMemory> {
+    let mut news = news;
     let mut piece = vec![in alloc; 0; PIECE]?;
     let mut spools = Vec::new(alloc);
-    for dest in dests {
-        if !fits_name(alloc, dest)? {
-            write!(
-                news,
-                "spool: {dest}: too long a name for a file; nothing of it is kept\n"
-            )?;
+    for (place, dest) in dests.iter().enumerate() {
+        if are_known.get(place).copied().unwrap_or(false) {
+            add(&mut spools, None)?;
+            continue;
         }
+        tell_long_name(alloc, dest, &mut news)?;
         let spool = DestSpool::open(disk, alloc, folder, dest, &mut piece, &mut news)?;
         add(&mut spools, Some(spool))?;
     }
@@ -45,6 +69,17 @@ pub fn open_all<D: SpoolDisk>(
         dests: spools,
         news,
     })
+}
+
+/// The news of a destination whose name is too long for a file.
+fn tell_long_name(alloc: Global, dest: &Dest, news: &mut String) -> Result<(), NoMemory> {
+    if !fits_name(alloc, dest)? {
+        write!(
+            news,
+            "spool: {dest}: too long a name for a file; nothing of it is kept\n"
+        )?;
+    }
+    Ok(())
 }
 
 /// Names the files of a folder that are of no destination. They stay.

@@ -21,7 +21,7 @@ use std::net::{Net, TcpListener, TcpStream};
 use std::rt::Clock;
 use std::sync::Wait;
 use std::sync::atomic::{AtomicBool, Ordering};
-use std::thread::Threads;
+use std::thread::{JoinHandle, Threads};
 use std::{net, thread};
 use worked_files::ring_plan;
 
@@ -100,15 +100,19 @@ fn sent_to<R: FlowRuntime>(rt: &R, listener: &PollListener, lines: &[u8]) -> Opt
     Some(stream)
 }
 
-/// Receives until the stop flag is set; `None` after a fault.
+/// Receives until the stop flag is set; `None` without a seat, or after a fault.
 fn receive<B: Set, R: Wait + Clock>(
     rt: &R,
     alloc: Global,
     common: &Common<'_, B>,
-    seat: DoorSeat<B>,
+    seat: Option<DoorSeat<B>>,
     producer: Producer,
     receiver: usize,
 ) -> Option<DoorRecord> {
+    let Some(seat) = seat else {
+        drop(producer);
+        return None;
+    };
     let Some(plan) = ring_plan(alloc, common.config, "") else {
         drop((seat, producer));
         return None;
@@ -134,13 +138,14 @@ const LIMIT: usize = 500;
 /// How many events of a sender's connections one wait reports.
 const EVENTS: usize = 64;
 
-/// Sends until the stop flag is set; `None` after a fault.
+/// Sends until the stop flag is set; `None` without a seat, or after a fault.
 fn send<B: Set, R: Threads + Wait + Clock + Net + Resolve + Copy + Send + Drop + 'static>(
     rt: &R,
     alloc: Global,
     common: &Common<'_, B>,
-    seat: OutletSeat<B>,
+    seat: Option<OutletSeat<B>>,
 ) -> Option<OutletRecord> {
+    let seat = seat?;
     let Ok(dests) = Dest::read_list(alloc, common.listed) else {
         drop(seat);
         return None;
@@ -241,7 +246,7 @@ pub(crate) fn in_threads<
     parts: Parts<B>,
     stores: &mut Vec<Store>,
     counts: &[usize],
-) -> Option<Records> {
+) -> Records {
     let Parts {
         doors,
         outlets,
@@ -249,25 +254,39 @@ pub(crate) fn in_threads<
         second,
     } = parts;
     let mut doors = doors.into_iter();
-    let (first_seat, second_seat) = (doors.next()?, doors.next()?);
-    let outlet_seat = outlets.into_iter().next()?;
-    thread::scope(thread::scope_env(), rt, |scope| -> Option<Records> {
+    let (first_seat, second_seat) = (doors.next(), doors.next());
+    let outlet_seat = outlets.into_iter().next();
+    // A thread that did not start is told by what it gave: an early end here would drop all the others in each place.
+    thread::scope(thread::scope_env(), rt, |scope| -> Records {
         let first = scope
             .spawn(move || receive(rt, alloc, common, first_seat, first, 0))
-            .ok()?;
+            .ok();
         let second = scope
             .spawn(move || receive(rt, alloc, common, second_seat, second, 1))
-            .ok()?;
+            .ok();
         let ending = scope
             .spawn(move || stop_when_taken(rt, common, stores, counts))
-            .ok()?;
+            .ok();
+        if ending.is_none() {
+            common.stop.store(true, Ordering::SeqCst);
+        }
         let outlet = send(rt, alloc, common, outlet_seat);
-        ending.join(rt);
-        Some(Records {
-            doors: [first.join(rt), second.join(rt)],
+        if let Some(ending) = ending {
+            ending.join(rt);
+        }
+        Records {
+            doors: [given_by(rt, first), given_by(rt, second)],
             outlet,
-        })
+        }
     })
+}
+
+/// What a thread gave; `None` if it did not start.
+fn given_by<R: Threads + Wait + Sync, T: Drop>(
+    rt: &R,
+    child: Option<JoinHandle<Option<T>>>,
+) -> Option<T> {
+    child?.join(rt)
 }
 
 /// Releases the first receiver, and sets the stop flag once the stores have this many bytes each.

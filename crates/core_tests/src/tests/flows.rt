@@ -189,7 +189,7 @@ fn is_moved_to<B: Set + Send + Sync, R: FlowRuntime>(
         listed: listed.as_str(),
         stop: &stop,
     };
-    let records = in_threads(rt, alloc, &common, parts, stores, &counts)?;
+    let records = in_threads(rt, alloc, &common, parts, stores, &counts);
     let is_settled = are_settled(rt, alloc, queues, records, case)?;
     Some(is_settled && are_delivered(stores, case) && !gate.has_given_up.load(Ordering::SeqCst))
 }

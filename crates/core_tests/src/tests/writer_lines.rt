@@ -41,13 +41,20 @@ fn writer_with(alloc: Global, hand: &mut Hand) -> Option<Writer>
 
 /// A hand with `count` lines.
 fn hand_of(alloc: Global, count: usize) -> Option<Hand> {
-    let mut queue = DestQueue::new(alloc, MOST_LINES, 1).ok()?;
-    let hand = match offer_lines(alloc, &mut queue, count) {
-        Some(()) => hand_from(alloc, &mut queue),
-        None => None,
-    };
+    let mut queue = queue_of(alloc, count)?;
+    let hand = hand_from(alloc, &mut queue);
     drop(queue);
     hand
+}
+
+/// A queue with `count` lines, at most 1,000. `None` if there is no memory.
+pub fn queue_of(alloc: Global, count: usize) -> Option<DestQueue> {
+    let mut queue = DestQueue::new(alloc, MOST_LINES, 1).ok()?;
+    if offer_lines(alloc, &mut queue, count).is_none() {
+        drop(queue);
+        return None;
+    }
+    Some(queue)
 }
 
 fn hand_from(alloc: Global, queue: &mut DestQueue) -> Option<Hand> {

@@ -15,10 +15,10 @@ returns-in_err-configuration-clause-err g c =
 pub returns-in-Err-clause-err : goal.returns-in-Err-clause-err
 returns-in-Err-clause-err g c =
     let read = c.in_ok-configuration.ensures.ok in
-    (read.0, read.1, inr (_, read.2, fails-at_start _ _ c.in-Err.ensures))
+    (read.0, read.1, inr (_, read.2, inl (fails-at_start _ _ _ c.in-Err.ensures)))
 
 -- the run of their configuration has a fault
 pub returns-in-Ok-clause-err : goal.returns-in-Ok-clause-err
 returns-in-Ok-clause-err g c =
     let read = c.in_ok-configuration.ensures.ok in
-    IfErr-weaker c.run_relay.result _ _ (λ fault fails. (read.0, read.1, inr (_, read.2, fails))) c.run_relay.ensures.err
+    IfErr-weaker c.run_all.result _ _ (λ fault fails. (read.0, read.1, inr (_, read.2, fails))) c.run_all.ensures.err

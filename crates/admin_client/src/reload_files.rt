@@ -1,0 +1,95 @@
+//! The files that a reload names.
+
+ghost use Rattle.std.specs.Prelude.{◌≡◌, None, Some, MatchOption};
+ghost use Rattle.admin_client.specs.ReloadRequest.{value_in};
+
+use crate::reload_answer::behind;
+use relay_base::NoMemory;
+use std::alloc::Global;
+use std::fmt::Write as _;
+use std::str;
+
+/// How many bytes the text that asks for a reload has at most: three paths of 4,096 bytes, and the words before them. A longer
+/// one is none.
+pub const LONGEST_REQUEST: usize = 16_384;
+
+/// The words before each value of a request, a line each.
+const CONFIG: &str = "config ";
+
+const RULES: &str = "rules ";
+
+const REWRITE: &str = "rewrite ";
+
+const LONGEST_NAME: &str = "longest-name ";
+
+/// The files that a reload names, by paths from the root on, and the limit on names that comes with them.
+#[derive(Clone, Copy)]
+pub struct ReloadFiles<'a> {
+    /// The configuration file.
+    pub config: &'a str,
+    /// The file of relay rules, if there is one.
+    pub rules: Option<&'a str>,
+    /// The rewrite file, if there is one.
+    pub rewrite: Option<&'a str>,
+    /// The length above which names are dropped, in decimal digits, if there is one.
+    pub longest_name: Option<&'a str>,
+}
+
+/// The files that a request for a reload names; `None` if it names no configuration file: then those that the run began with
+/// are read again. A value that is not UTF-8 is none.
+pub fn reload_files_in(sent: &[u8]) -> Option<ReloadFiles<'_>> {
+    Some(ReloadFiles {
+        config: text_in(CONFIG, sent)?,
+        rules: text_in(RULES, sent),
+        rewrite: text_in(REWRITE, sent),
+        longest_name: text_in(LONGEST_NAME, sent),
+    })
+}
+
+/// The text that a request has under these words.
+fn text_in<'a>(words: &str, sent: &'a [u8]) -> Option<&'a str> {
+    str::from_utf8(value_in(words.as_bytes(), sent)?).ok()
+}
+
+/// What a request has behind these words, in the first line that begins with them.
+fn value_in<'a>(words: &[u8], sent: &'a [u8]) -> Option<&'a [u8]>
+    ensures { MatchOption result (value_in words.now sent.now ≡ None)
+        (λ value. value_in words.now sent.now ≡ Some value.now) }
+{
+    for line in sent.split(|byte| *byte == b'\n') {
+        if let Some(value) = behind(words, line) {
+            return Some(value);
+        }
+    }
+    None
+}
+
+/// The text that asks for a reload by these files, or by those that the run began with. Refuses if out of memory. The values
+/// have no byte 10 ([`can_be_named`]).
+pub fn reload_request(alloc: Global, files: Option<ReloadFiles<'_>>) -> Result<String, NoMemory> {
+    let mut text = String::from_str(alloc, "reload\n")?;
+    if let Some(files) = files {
+        push_value(&mut text, CONFIG, Some(files.config))?;
+        push_value(&mut text, RULES, files.rules)?;
+        push_value(&mut text, REWRITE, files.rewrite)?;
+        push_value(&mut text, LONGEST_NAME, files.longest_name)?;
+    }
+    Ok(text)
+}
+
+/// Adds the line of a value, if there is one.
+fn push_value(text: &mut String, words: &str, value: Option<&str>) -> Result<(), NoMemory> {
+    if let Some(value) = value {
+        write!(text, "{words}{value}\n")?;
+    }
+    Ok(())
+}
+
+/// Whether a path can be sent to a relay, whose working directory is another: it is from the root on, and has no byte 10 and at
+/// most 4,096 bytes.
+pub fn can_be_named(path: &str) -> bool {
+    path.starts_with('/') && path.len() <= LONGEST_PATH && !path.contains('\n')
+}
+
+/// How many bytes a path has at most, by the system.
+const LONGEST_PATH: usize = 4_096;

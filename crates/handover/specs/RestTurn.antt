@@ -1,0 +1,8 @@
+-- What a turn gives out.
+use Rattle.handover.specs.declared.rest_turn.RestTurn.{RestTurn}
+use Rattle.handover.specs.declared.rest_turn.RestTurn.TheVariants.{Over}
+
+-- of the connection, if the rest is over
+abbrev pub IfOver : {W : Type 0} → RestTurn W → (W → Type 0) → Type 0
+IfOver (Over sink) is = is sink
+IfOver _ is = Unit {0}

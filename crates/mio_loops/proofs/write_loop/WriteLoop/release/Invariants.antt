@@ -1,0 +1,12 @@
+use Rattle.std.proofs.Common.{◌≡◌, ◌≤◌, ◌+◌, ◌++◌, length, map, vec_len, vec_capacity}
+use Rattle.std.specs.Vec.Iter.{into_iter_items, into_iter_len}
+use Rattle.mio_loops.proofs.write_loop.WriteLoop.release.Given as goal
+
+-- the logs so far, with those that are left, are all
+abbrev pub invariant-loop-destination : goal.invariant-loop-destination
+invariant-loop-destination g l = record {
+  logs : l.logs.items ++ map (λ o. o.log) (into_iter_items l.destination-iterator)
+      ≡ map (λ o. o.log) (into_iter_items l.initial.destination-iterator);
+  room : vec_len l.logs + length (into_iter_items l.destination-iterator) ≤ vec_capacity l.logs;
+  count : into_iter_len l.destination-iterator ≡ length (into_iter_items l.destination-iterator);
+}

@@ -1,0 +1,13 @@
+use Rattle.relay_run.proofs.run_command.one_run.Given as goal
+
+-- the names of the set: its table, and its numbers
+abbrev pub ghosts-run_relay : goal.ghosts-run_relay
+ghosts-run_relay g a =
+    record {
+      table = a.next.start.blank;
+      name = 1;
+      dests = a.next.start.shape.dests;
+      receivers = a.next.start.shape.receivers;
+      senders = a.next.start.shape.senders;
+      size = a.next.start.shape.size;
+    }

@@ -1,0 +1,8 @@
+-- What is left for a destination between two runs.
+use Rattle.std.specs.Prelude.{ℕ, List, [], Option, None, Some}
+use Rattle.handover.specs.Rest.{RestLeft, left_text}
+
+-- the lines that its connections lack, from the very byte on
+abbrev pub text_left : Option RestLeft → List ℕ
+text_left None = []
+text_left (Some rest) = left_text rest

@@ -1,0 +1,196 @@
+//! What a run leaves that another one follows.
+
+ghost use Rattle.std.specs.Prelude.{◌≡◌, ℕ, ◌≤◌, ◌+◌, ◌++◌, length, min, take, IfOk};
+ghost use Rattle.line_text.specs.Print.{printed_lines};
+ghost use Rattle.handover.specs.Rest.{left_text};
+ghost use Rattle.relay_run.specs.LeftDest.{text_left};
+
+use crate::closing::closing_text;
+use crate::dest_slots::DestSlots;
+use crate::gone_dests::GoneDests;
+use crate::left_dest::LeftDest;
+use crate::relay::Relay;
+use crate::shape::Shape;
+use crate::thread_records::Records;
+use dest_queue::{Hand, QueuedPoints};
+use dest_writer::Writer;
+use finished_run::{FinishedRun, Recorder, RunPlace, RunShape};
+use handover::Rest;
+use locked_queues::{EndRoom, EndedSet, Set};
+use receivers::HandedStreams;
+use relay_base::{LARGEST_MESSAGE, NoMemory};
+use relay_files::RunConfiguration;
+use run_state::RunNotes;
+use std::alloc::Global;
+use std::sync::Arc;
+
+/// What a run leaves that another one follows: what its record is made of, and, by its own places, what was noted, what is left
+/// for each destination, and the connections of each receiver.
+#[derive(Drop)]
+pub(crate) struct EndedRun {
+    pub(crate) record: EndedRecord,
+    pub(crate) notes: RunNotes,
+    pub(crate) slots: DestSlots,
+    pub(crate) gone: GoneDests,
+    pub(crate) streams: Vec<Arc<HandedStreams>>,
+}
+
+/// What the record of a run is made of: its number, its configuration and its numbers, its queues without their datapoints, and
+/// what its threads recorded and logged, with the fault of one, if one had a fault.
+#[derive(Drop)]
+pub(crate) struct EndedRecord {
+    pub(crate) number: u64,
+    pub(crate) configuration: RunConfiguration,
+    pub(crate) shape: RunShape,
+    pub(crate) set: EndedSet,
+    pub(crate) records: Records,
+    ghost dests: { length configuration.settings.routing.destinations ≡ shape.dests },
+    ghost size: { (1 ≤ shape.size) × (shape.size ≤ 1000000) },
+    ghost limit: { (1 ≤ shape.limit) × (shape.limit ≤ 10000) },
+}
+
+impl EndedRecord {
+    /// Settles the run, gives the recorder, if there is one, what it left, and frees that. Returns the lines of the log on the
+    /// run.
+    pub(crate) fn finish<K: Recorder>(
+        self,
+        alloc: Global,
+        recorder: &mut Option<K>,
+    ) -> Result<String, NoMemory> {
+        let EndedRecord {
+            number,
+            configuration,
+            shape,
+            set,
+            records,
+        } = self;
+        let Records {
+            doors,
+            outlets,
+            logs,
+            fault,
+        } = records;
+        let settled = set.settle(alloc, doors.as_slice(), outlets.as_slice());
+        drop((doors, outlets));
+        if let Some(recorder) = recorder {
+            let run = FinishedRun {
+                configuration: &configuration,
+                shape,
+                settled: &settled,
+                logs: &logs,
+            };
+            recorder.take(alloc, RunPlace::Followed { number }, &run);
+        }
+        let text = closing_text(alloc, number, &settled, fault);
+        drop(configuration);
+        drop((settled, logs));
+        text
+    }
+}
+
+/// Takes a relay apart whose threads have ended, and recorded this: each destination's queue is behind what its sender had in
+/// hand. There is room for what that leaves.
+pub(crate) fn ended_of<B: Set>(
+    alloc: Global,
+    relay: Relay<B>,
+    room: EndRoom<B>,
+    number: u64,
+    records: Records,
+) -> EndedRun {
+    let Relay {
+        configuration,
+        shape,
+        queues,
+        state,
+        slots,
+        gone,
+        streams,
+        ..
+    } = relay;
+    let mut notes = state.into_notes();
+    let mut slots = slots;
+    let mut set = queues.end(room);
+    for place in (0..shape.dests).rev() {
+        add_queue(alloc, &mut set, place, &shape, &mut notes, &mut slots);
+    }
+    for receiver in notes.receivers.as_slice() {
+        receiver.begin_run();
+    }
+    EndedRun {
+        record: EndedRecord {
+            number,
+            configuration,
+            shape: shape.recorded(),
+            set,
+            records,
+        },
+        notes,
+        slots,
+        gone,
+        streams,
+    }
+}
+
+/// Puts the datapoints of a destination's queue, the last one that was not taken yet, behind what is left for it, and notes
+/// what was counted.
+fn add_queue(
+    alloc: Global,
+    set: &mut EndedSet,
+    place: usize,
+    shape: &Shape,
+    notes: &mut RunNotes,
+    slots: &mut DestSlots,
+)
+    requires limit { (1 ≤ shape.now.limit) × (shape.now.limit ≤ LARGEST_MESSAGE) }
+{
+    let (Some(points), Some(counts)) = (set.take_points(), set.counts().get(place).copied()) else {
+        return;
+    };
+    let Some(left) = slots.get_mut(place) else {
+        return;
+    };
+    let dropped = add_points(alloc, left, points, shape);
+    let (queued, in_hand) = left.counts();
+    if let Some(earlier) = notes.earlier.get_mut(place) {
+        *earlier = earlier.after_run(counts).after_drops(dropped as u64);
+    }
+    if let Some(rest) = notes.rests.get(place) {
+        rest.note(queued, in_hand);
+    }
+}
+
+/// Puts the datapoints of a queue behind what is left for its destination. Returns how many were dropped: those for which there
+/// was no room, or all if a sender that had ended early left nothing and there is no memory for what sends them.
+fn add_points(alloc: Global, left: &mut LeftDest, points: QueuedPoints, shape: &Shape) -> usize
+    requires limit { (1 ≤ shape.now.limit) × (shape.now.limit ≤ LARGEST_MESSAGE) }
+    ensures text { (kept : ℕ) × (text_left left.new.rest
+        ≡ text_left left.old.rest ++ printed_lines (take kept points))
+        × (length points ≡ min kept (length points) + result) }
+    ensures files { left.new.files ≡ left.old.files }
+    ensures socket { left.new.socket ≡ left.old.socket }
+{
+    if let Some(rest) = &mut left.rest {
+        return rest.add(points, shape.size);
+    }
+    let count = points.len();
+    if count == 0 {
+        return 0;
+    }
+    match rest_of(alloc, shape.limit, points) {
+        Ok(rest) => {
+            left.rest = Some(rest);
+            0
+        }
+        Err(NoMemory) => count,
+    }
+}
+
+/// A rest of these datapoints, of which none is in hand.
+fn rest_of(alloc: Global, limit: usize, points: QueuedPoints) -> Result<Rest, NoMemory>
+    requires limit { (1 ≤ limit) × (limit ≤ LARGEST_MESSAGE) }
+    ensures { IfOk result (λ rest. left_text rest ≡ printed_lines points) }
+{
+    let lent = Hand::new(alloc, limit)?;
+    let writer = Writer::new(alloc, limit)?;
+    Ok(Rest::new(limit, writer, lent, points))
+}

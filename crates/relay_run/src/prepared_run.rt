@@ -1,0 +1,209 @@
+//! A run that is to follow the one that runs.
+
+ghost use Rattle.std.specs.Prelude.{◌≤◌};
+
+use crate::listeners::{BoundPort, FirstPorts};
+use crate::relay::Relay;
+use crate::reload_source::{RefusedReload, ReloadSource};
+use crate::spool_folder::{SpoolFolder, open_new_files};
+use admin_client::Refusal;
+use conf_text::{Dest, Setting, Settings};
+use config_changes::{OtherChanges, first_fixed_change, kept_places, place_of, push_reload_line};
+use dest_queue::DestQueue;
+use locked_queues::{BlankTotals, EndRoom, MOST_RECEIVERS, Set};
+use queue_records::READERS_EACH;
+use relay_base::{DestId, MOST_DESTINATIONS, NoMemory, add};
+use relay_files::{RelayFault, RunConfiguration};
+use spool::{SpoolDisk, SpoolFiles};
+use std::alloc::Global;
+
+/// A run that is to follow the one that runs, and room for what that leaves.
+#[derive(Drop)]
+pub(crate) struct PreparedRun<B: Set> {
+    pub(crate) next: NextPlan,
+    pub(crate) room: EndRoom<B>,
+}
+
+/// A run that is to follow the one that runs: its configuration, which was read and checked; its ports; the totals of its
+/// queues; where each of its destinations is among those of the run, and among those that are gone; the files of the others;
+/// the line of the log; and the connection that waits for the answer.
+#[derive(Drop)]
+pub(crate) struct NextPlan {
+    pub(crate) configuration: RunConfiguration,
+    pub(crate) receivers: Vec<BoundPort>,
+    pub(crate) blank: BlankTotals,
+    pub(crate) kept: Vec<Option<DestId>>,
+    pub(crate) returned: Vec<Option<DestId>>,
+    pub(crate) files: SpoolFiles,
+    pub(crate) line: String,
+    pub(crate) connection: u64,
+}
+
+/// Reads the files that a request names, and makes ready what a run by them needs before the one that runs ends. Refuses a
+/// fault of the files, another setting of a port, and what the system refuses; then nothing has changed.
+pub(crate) fn prepared_by<B: Set, R: SpoolDisk, F: ReloadSource>(
+    rt: &R,
+    alloc: Global,
+    relay: &Relay<B>,
+    ports: &FirstPorts,
+    files: &F,
+    folder: Option<SpoolFolder<'_>>,
+    request: &[u8],
+    connection: u64,
+) -> Result<PreparedRun<B>, RefusedReload> {
+    let configuration = files.read(alloc, request)?;
+    if let Some(setting) = first_fixed_change(
+        relay.configuration.settings(),
+        configuration.settings(),
+    ) {
+        drop(configuration);
+        return Err(needs_restart(alloc, setting));
+    }
+    if gone_count(relay, &configuration) > MOST_DESTINATIONS {
+        drop(configuration);
+        let text = String::from_str(
+            alloc,
+            "more than 64 destinations that are gone are still sent to\n",
+        );
+        return Err(refused(alloc, Refusal::Device, text));
+    }
+    let receivers = match ports.for_receivers(alloc) {
+        Ok(receivers) => receivers,
+        Err(fault) => {
+            drop(configuration);
+            return Err(refused_for(alloc, fault));
+        }
+    };
+    match with_room(
+        rt,
+        alloc,
+        relay,
+        configuration,
+        receivers,
+        folder,
+        connection,
+    ) {
+        Ok(prepared) => Ok(prepared),
+        Err(NoMemory) => Err(RefusedReload::no_memory(alloc)),
+    }
+}
+
+/// How many destinations a run by a configuration does not have that this one has, or that are gone already.
+fn gone_count<B: Set>(relay: &Relay<B>, configuration: &RunConfiguration) -> usize {
+    let new = configuration.settings().destinations();
+    let old = relay.configuration.settings().destinations();
+    lacked_by(new, old).saturating_add(lacked_by(new, relay.gone.dests.as_slice()))
+}
+
+/// How many of some destinations a list does not have.
+fn lacked_by(list: &[Dest], dests: &[Dest]) -> usize {
+    let mut count: usize = 0;
+    for dest in dests {
+        if place_of(dest, list).is_none() {
+            count = count.saturating_add(1);
+        }
+    }
+    count
+}
+
+/// A run by a configuration, with what needs memory before the one that runs ends.
+fn with_room<B: Set, R: SpoolDisk>(
+    rt: &R,
+    alloc: Global,
+    relay: &Relay<B>,
+    configuration: RunConfiguration,
+    receivers: Vec<BoundPort>,
+    folder: Option<SpoolFolder<'_>>,
+    connection: u64,
+) -> Result<PreparedRun<B>, NoMemory> {
+    let old = relay.configuration.settings().destinations();
+    let new = configuration.settings().destinations();
+    try_queues(alloc, configuration.settings(), relay.shape.receivers)?;
+    let kept = kept_places(alloc, old, new)?;
+    let returned = kept_places(alloc, relay.gone.dests.as_slice(), new)?;
+    let are_known = known_places(alloc, kept.as_slice(), returned.as_slice())?;
+    let files = open_new_files(rt, alloc, new, are_known.as_slice(), folder)?;
+    drop(are_known);
+    let line = reload_line(alloc, &relay.configuration, &configuration)?;
+    let room = relay.queues.end_room(alloc)?;
+    let next = NextPlan {
+        blank: BlankTotals::new(alloc)?,
+        configuration,
+        receivers,
+        kept,
+        returned,
+        files,
+        line,
+        connection,
+    };
+    Ok(PreparedRun { next, room })
+}
+
+/// Which destinations the run has, or has as gone.
+fn known_places(
+    alloc: Global,
+    kept: &[Option<DestId>],
+    returned: &[Option<DestId>],
+) -> Result<Vec<bool>, NoMemory> {
+    let mut known = Vec::new(alloc);
+    for (kept, returned) in kept.iter().zip(returned) {
+        add(&mut known, kept.is_some() || returned.is_some())?;
+    }
+    Ok(known)
+}
+
+/// Makes the queues of settings for so many receivers, and drops them: the run that follows finds the memory for its own then.
+fn try_queues(alloc: Global, settings: &Settings, receivers: usize) -> Result<(), NoMemory>
+    requires receivers { (1 ≤ receivers) × (receivers ≤ MOST_RECEIVERS) }
+{
+    let readers = READERS_EACH * receivers;
+    let mut queues = Vec::new(alloc);
+    for _ in settings.destinations() {
+        let queue = DestQueue::new(alloc, settings.max_queue_size(), readers)?;
+        add(&mut queues, queue)?;
+    }
+    drop(queues);
+    Ok(())
+}
+
+/// The line of the log on what changes from one configuration to the next.
+fn reload_line(
+    alloc: Global,
+    old: &RunConfiguration,
+    new: &RunConfiguration,
+) -> Result<String, NoMemory> {
+    let mut line = String::new(alloc);
+    let others = OtherChanges {
+        rules: !old.has_same_rules(new),
+        rewriting: !old.has_same_rewriting(new),
+    };
+    let (before, after) = (old.settings().destinations(), new.settings().destinations());
+    push_reload_line(&mut line, before, after, others)?;
+    Ok(line)
+}
+
+/// The refusal of another setting of a port.
+fn needs_restart(alloc: Global, setting: Setting) -> RefusedReload {
+    let name = setting.name();
+    refused(
+        alloc,
+        Refusal::Configuration,
+        format!(in alloc; "{name}: needs a restart\n"),
+    )
+}
+
+/// The refusal for a fault of the system.
+fn refused_for(alloc: Global, fault: RelayFault) -> RefusedReload {
+    match fault {
+        RelayFault::NoMemory => RefusedReload::no_memory(alloc),
+        fault => refused(alloc, Refusal::Device, format!(in alloc; "{fault}\n")),
+    }
+}
+
+/// The refusal for this reason, or out of memory for its text.
+fn refused<E: Drop>(alloc: Global, refusal: Refusal, text: Result<String, E>) -> RefusedReload {
+    match text {
+        Ok(text) => RefusedReload { refusal, text },
+        Err(_) => RefusedReload::no_memory(alloc),
+    }
+}

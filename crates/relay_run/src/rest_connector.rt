@@ -1,0 +1,317 @@
+//! Connections behind what ended runs left.
+
+ghost use Rattle.std.specs.Prelude.{◌≡◌, Some, None, IfErr, IfSome};
+ghost use Rattle.std.specs.Io.KnownBytes.{Appends};
+ghost use Rattle.dest_writer.specs.Counting.{stream_of};
+ghost use Rattle.dest_writer.specs.declared.counting.Counting.{Counting};
+ghost use Rattle.handover.specs.Rest.{RestState, rest_text};
+
+use crate::dest_list::copy_list;
+use crate::dest_slots::DestSlots;
+use crate::left_dest::socket_of;
+use dest_queue::QueuedPoints;
+use dest_writer::GatherBuf;
+use handover::{Rest, RestConnection, RestTurn};
+use mio_loops::{LeftWriter, ReadinessFault};
+use relay_base::{DestId, MOST_DESTINATIONS, NoMemory, add};
+use run_state::{RestNotes, Signals};
+use senders::{Connect, KeptSocket};
+use std::alloc::Global;
+use std::io::Write;
+
+/// What ended runs left for a sender's destinations: by destination, a rest, if there is one, until all of it is sent.
+#[derive(Drop)]
+pub(crate) struct SenderRests<'n, W> {
+    dests: Vec<Option<RestConnection<W>>>,
+    // None if there was never a rest.
+    gathered: Option<GatherBuf>,
+    notes: &'n [RestNotes],
+}
+
+impl<'n, W: Drop> SenderRests<'n, W> {
+    /// No run has ended. It takes no memory.
+    pub(crate) fn none(alloc: Global, notes: &'n [RestNotes]) -> SenderRests<'n, W> {
+        SenderRests {
+            dests: Vec::new(alloc),
+            gathered: None,
+            notes,
+        }
+    }
+
+    /// Places for the rests of so many destinations; where it is noted how much of each is left. Refuses if out of memory.
+    pub(crate) fn new(
+        alloc: Global,
+        dests: usize,
+        notes: &'n [RestNotes],
+    ) -> Result<SenderRests<'n, W>, NoMemory> {
+        let mut none = Vec::new(alloc);
+        for _ in 0..dests {
+            add(&mut none, None)?;
+        }
+        Ok(SenderRests {
+            dests: none,
+            gathered: Some(GatherBuf::new(alloc)?),
+            notes,
+        })
+    }
+
+    /// From now on this rest of a destination is to be sent: the connection that its writer had goes on, if it is there.
+    pub(crate) fn begin(&mut self, place: usize, rest: Rest, sink: Option<W>) {
+        let mut rest = rest;
+        if sink.is_none() {
+            rest.lose();
+        }
+        let mut connection = RestConnection::new(rest);
+        if let Some(sink) = sink {
+            connection.go_on(sink);
+        }
+        if let Some(slot) = self.dests.get_mut(place) {
+            *slot = Some(connection);
+        }
+    }
+
+    /// Whether nothing is left for any destination.
+    fn are_over(&self) -> bool {
+        self.dests.iter().all(|rest| rest.is_none())
+    }
+
+    /// Whether a rest is left for a destination.
+    fn has_rest(&self, place: usize) -> bool {
+        matches!(self.dests.get(place), Some(Some(_)))
+    }
+
+    /// Whether a rest goes on at once.
+    fn goes_on(&self) -> bool {
+        for rest in &self.dests {
+            if let Some(rest) = rest {
+                if rest.goes_on() {
+                    return true;
+                }
+            }
+        }
+        false
+    }
+
+    /// These destinations' connections are ready.
+    fn note_ready(&mut self, ready: &[DestId]) {
+        for dest in ready {
+            if let Some(Some(rest)) = self.dests.get_mut(dest.0) {
+                rest.note_ready();
+            }
+        }
+    }
+
+    /// The connection of a destination has closed.
+    fn lose(&mut self, place: usize) {
+        if let Some(Some(rest)) = self.dests.get_mut(place) {
+            if rest.is_open() {
+                rest.lose();
+            }
+        }
+    }
+
+    /// Whether the rest of a destination has a connection.
+    fn is_open(&self, place: usize) -> bool {
+        match self.dests.get(place) {
+            Some(Some(rest)) => rest.is_open(),
+            _ => false,
+        }
+    }
+
+    /// The rest of a destination has this connection, which is another than its writer had.
+    fn begin_connection(&mut self, place: usize, sink: W) {
+        if let Some(Some(rest)) = self.dests.get_mut(place) {
+            rest.begin(sink);
+        }
+    }
+
+    /// Takes the rest of a destination, and its connection, if there is one.
+    fn take(&mut self, place: usize) -> Option<(Rest, Option<W>)> {
+        let connection = self.dests.get_mut(place)?.take()?;
+        Some(connection.into_parts())
+    }
+}
+
+impl<W: Write + Drop> SenderRests<'_, W> {
+    /// Sends some of the rest of a destination, and returns the connection once it took all of that.
+    fn send(&mut self, place: usize) -> Option<W> {
+        let Some(gathered) = &mut self.gathered else {
+            return None;
+        };
+        match self.dests.get_mut(place) {
+            Some(slot) => send_rest(slot, gathered, self.notes.get(place)),
+            None => None,
+        }
+    }
+}
+
+/// Sends some of a rest, if there is one, and notes how much is left. Returns the connection once it took the whole rest, which
+/// is over then.
+fn send_rest<W: Write + Drop>(
+    slot: &mut Option<RestConnection<W>>,
+    gathered: &mut GatherBuf,
+    notes: Option<&RestNotes>,
+) -> Option<W>
+    ensures whole { IfSome result (λ sink. (rest : RestState W) × (had : Counting W)
+        × (slot.old ≡ Some rest) × (rest.sink ≡ Some had)
+        × Appends (W.contents (stream_of had)) (W.contents sink) (rest_text rest)) }
+    ensures over { IfSome result (λ _. slot.new ≡ None) }
+{
+    let Some(rest) = slot else {
+        return None;
+    };
+    let turn = rest.send(gathered);
+    if let Some(notes) = notes {
+        notes.note(rest.rest().queued(), rest.rest().in_hand());
+    }
+    match turn {
+        RestTurn::Over(sink) => {
+            *slot = None;
+            Some(sink)
+        }
+        RestTurn::Lost | RestTurn::Kept => None,
+    }
+}
+
+/// Connects through another connector. While a rest is left for a destination, it keeps the connection for itself and sends the
+/// rest, so that the destination is not connected for others before. Without rests it connects as the other connector does.
+///
+/// When the sender ends, what is still left goes to the slots; and if another run follows, so does what the sender had in hand,
+/// with its connection.
+#[derive(Drop)]
+pub(crate) struct RestConnector<'n, N: Connect> {
+    connector: N,
+    rests: SenderRests<'n, N::Sink>,
+    slots: &'n DestSlots,
+    signals: &'n Signals,
+    // Which of this many senders it is for: one of `n` has each n-th destination.
+    sender: usize,
+    senders: usize,
+    alloc: Global,
+    ready: [DestId; MOST_DESTINATIONS],
+}
+
+impl<'n, N: Connect> RestConnector<'n, N> {
+    /// Connects through `connector`, behind these rests, for one of this many senders.
+    pub(crate) fn new(
+        alloc: Global,
+        connector: N,
+        rests: SenderRests<'n, N::Sink>,
+        slots: &'n DestSlots,
+        signals: &'n Signals,
+        sender: usize,
+        senders: usize,
+    ) -> RestConnector<'n, N> {
+        RestConnector {
+            connector,
+            rests,
+            slots,
+            signals,
+            sender,
+            senders,
+            alloc,
+            ready: [DestId(0); MOST_DESTINATIONS],
+        }
+    }
+
+    /// Waits; not at all if a rest goes on at once. Connections that have closed take no more of their rests.
+    fn wait_beside_rests(&mut self, millis: u64) -> Result<&[DestId], ReadinessFault>
+        ensures device { IfErr result (λ fault. fault ≡ ReadinessFault.Device) }
+    {
+        let pause = if self.rests.goes_on() { 0 } else { millis };
+        let count = copy_list(self.connector.wait(pause)?, &mut self.ready);
+        self.rests.note_ready(&self.ready[..count]);
+        for place in 0..self.rests.dests.len() {
+            if self.connector.has_closed(DestId(place)) {
+                self.rests.lose(place);
+            }
+        }
+        Ok(&self.ready[..count])
+    }
+
+    /// Leaves the rest of a destination in its slot, with the socket of its connection if another run follows.
+    fn leave(&mut self, place: usize) {
+        let Some((rest, sink)) = self.rests.take(place) else {
+            return;
+        };
+        let socket = match sink {
+            Some(sink) => { socket_of(&mut self.connector, self.signals, DestId(place), sink) }
+            None => None,
+        };
+        self.slots.leave_rest(place, rest, socket);
+    }
+}
+
+impl<'n, N: Connect + Drop> Connect for RestConnector<'n, N> {
+    type Sink = N::Sink;
+
+    fn wait(&mut self, millis: u64) -> Result<&[DestId], ReadinessFault> {
+        if self.rests.are_over() {
+            return self.connector.wait(millis);
+        }
+        self.wait_beside_rests(millis)
+    }
+
+    fn about_to_wait(&mut self) {
+        self.connector.about_to_wait();
+    }
+
+    fn connect(&mut self, dest: DestId, millis: u64) -> Option<N::Sink> {
+        if !self.rests.has_rest(dest.0) {
+            return self.connector.connect(dest, millis);
+        }
+        if !self.rests.is_open(dest.0) {
+            let sink = self.connector.connect(dest, millis)?;
+            self.rests.begin_connection(dest.0, sink);
+        }
+        self.rests.send(dest.0)
+    }
+
+    fn has_closed(&self, dest: DestId) -> bool {
+        self.connector.has_closed(dest)
+    }
+
+    fn hands_over(&self) -> bool {
+        self.signals.is_handing()
+    }
+
+    /// What the sender had in hand is the beginning of the destination's rest, if the run is followed by another, and the
+    /// destination is this sender's and had no rest.
+    fn hand_over(&mut self, dest: DestId, left: LeftWriter<N::Sink>) {
+        let is_own = dest.0.checked_rem(self.senders) == Some(self.sender);
+        if !is_own || !self.signals.is_handing() || self.rests.has_rest(dest.0) {
+            return;
+        }
+        let LeftWriter {
+            limit,
+            writer,
+            lent,
+            sink,
+        } = left;
+        let socket = match sink {
+            Some(sink) => self.connector.take_back(dest, sink),
+            None => None,
+        };
+        let rest = Rest::new(limit, writer, lent, QueuedPoints::none(self.alloc));
+        self.slots.leave_rest(dest.0, rest, socket);
+    }
+
+    fn take_back(&mut self, dest: DestId, sink: N::Sink) -> Option<KeptSocket> {
+        self.connector.take_back(dest, sink)
+    }
+
+    fn end(&mut self) {
+        for place in 0..self.rests.dests.len() {
+            self.leave(place);
+        }
+        self.connector.end();
+    }
+
+    fn end_writes(&mut self) {
+        self.connector.end_writes();
+    }
+
+    fn is_quiet(&self) -> bool {
+        self.connector.is_quiet()
+    }
+}

@@ -1,0 +1,67 @@
+//! What is noted over all runs of a process.
+
+use crate::rest_notes::RestNotes;
+use dest_queue::EarlierCounts;
+use log_lines::{DestNotes, ReceiverNotes};
+use relay_base::{NoMemory, add};
+use std::alloc::Global;
+use std::sync::Arc;
+
+/// What is noted of receivers and of destinations over all runs of a process: a run that ends leaves it to the next one.
+#[derive(Drop)]
+pub struct RunNotes {
+    /// What each receiver notes.
+    pub receivers: Vec<Arc<ReceiverNotes>>,
+    /// By destination: the events of its connections, what its queues counted in runs that have ended, and how much of what
+    /// these left is not sent.
+    pub dests: Vec<DestNotes>,
+    /// See there.
+    pub earlier: Vec<EarlierCounts>,
+    /// See there.
+    pub rests: Vec<RestNotes>,
+}
+
+impl RunNotes {
+    /// There is no receiver, and no destination. It takes no memory.
+    pub fn none(alloc: Global) -> RunNotes {
+        RunNotes {
+            receivers: Vec::new(alloc),
+            dests: Vec::new(alloc),
+            earlier: Vec::new(alloc),
+            rests: Vec::new(alloc),
+        }
+    }
+
+    /// Nothing has happened to so many receivers and destinations. Refuses if out of memory.
+    pub fn new(alloc: Global, receivers: usize, dests: usize) -> Result<RunNotes, NoMemory> {
+        let mut notes = RunNotes {
+            receivers: receivers_of(alloc, receivers)?,
+            dests: Vec::new(alloc),
+            earlier: Vec::new(alloc),
+            rests: Vec::new(alloc),
+        };
+        for _ in 0..dests {
+            if notes.add_dest().is_err() {
+                drop(notes);
+                return Err(NoMemory);
+            }
+        }
+        Ok(notes)
+    }
+
+    /// Adds a destination to which nothing has happened.
+    fn add_dest(&mut self) -> Result<(), NoMemory> {
+        add(&mut self.dests, DestNotes::new())?;
+        add(&mut self.earlier, EarlierCounts::none())?;
+        add(&mut self.rests, RestNotes::new())
+    }
+}
+
+/// Where this many receivers note their events: no event yet.
+fn receivers_of(alloc: Global, receivers: usize) -> Result<Vec<Arc<ReceiverNotes>>, NoMemory> {
+    let mut notes = Vec::new(alloc);
+    for _ in 0..receivers {
+        add(&mut notes, Arc::new(alloc, ReceiverNotes::new())?)?;
+    }
+    Ok(notes)
+}

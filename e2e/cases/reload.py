@@ -1,0 +1,750 @@
+"""`relayd reload`: a new configuration without a lost datapoint, over the same sockets."""
+
+import collections
+import contextlib
+import http.client
+import json
+import os
+import pickle
+import random
+import re
+import resource
+import socket
+import subprocess
+import tempfile
+import threading
+import time
+
+from fixtures import refused, sockets
+from fixtures.harness import LIMIT, Ran, Settings, held, run
+from fixtures.log import Log
+from fixtures.running import Relay, WithRelays, frame
+from fixtures.stores import Store, free_ports
+
+ALL = "[all]\ndefault = true\ndestinations = {}\n"
+RELOADED = Ran(0, b"reloaded\n", b"")
+# With names of this length a store that reads nothing leaves most of them in the relay.
+LONG = [b"%s.%d %d 1700000000" % (b"n" * 220, number, number) for number in range(20_000)]
+NUMBERED = re.compile(rb"([a-z]+)(\d+)\.(\d+) (\d+) 1700000000")
+FOREVER = "3600"  # seconds: for so long no case waits
+
+
+def numbered(count, prefix=b"a", first=0):
+    """This number of lines, each another."""
+    return [b"%s.%d %d 1700000000" % (prefix, number, number) for number in range(first, first + count)]
+
+
+def text_of(lines):
+    """Their text."""
+    return b"".join(line + b"\n" for line in lines)
+
+
+class Reloads(WithRelays):
+    """A relay that takes new configurations."""
+
+    def path(self, name):
+        """The path of a file of the case."""
+        return os.path.join(os.fspath(self.folder), name)
+
+    def write(self, name, text):
+        """Writes a file of the case, and gives its path."""
+        with open(self.path(name), "w", encoding="utf-8") as file:
+            file.write(text)
+        return self.path(name)
+
+    @contextlib.contextmanager
+    def running(self, dests, rules=None, options=(), **changed):
+        """A relay whose files may be written anew: `config` and `rules`."""
+        with self.relay(dests, rules or ALL.format(", ".join(dests)), options=("--log", *options), **changed) as relay:
+            relay.log = Log(relay.child.stderr)
+            relay.listening = (relay.line, relay.pickle, relay.udp)
+            yield relay
+
+    def files(self, relay, dests, rules=None, **changed):
+        """The words that name new files."""
+        rules = rules or ALL.format(", ".join(dests))
+        config = self.write("new.conf", self.configuration(dests, relay.listening, **changed))
+        return ("--config", config, "--rules", self.write("new-rules.conf", rules))
+
+    def reload(self, relay, *words):
+        """How `relayd reload` ends."""
+        return run(("reload", *words, "--admin", str(relay.admin)))
+
+    def reloads(self, relay, dests, rules=None, **changed):
+        """The relay takes a new configuration."""
+        ran = self.reload(relay, *self.files(relay, dests, rules, **changed))
+        self.assertEqual(ran, RELOADED)
+
+    def stops(self, relay, last=b"settled\n"):
+        """The relay stops, and its last line is this. Its standard error is read already."""
+        self.assertEqual(relay.command(b"stop"), b"stopping\n")
+        self.assertEqual(relay.child.wait(LIMIT), 0)
+        self.assertEqual(relay.child.stdout.read(), last)
+        relay.log.thread.join(LIMIT)
+
+    def status(self, relay, port):
+        """The status as JSON."""
+        there = http.client.HTTPConnection("127.0.0.1", port, timeout=LIMIT)
+        try:
+            there.request("GET", "/status.json")
+            return json.loads(there.getresponse().read())
+        finally:
+            there.close()
+
+
+class Connections(Reloads):
+    """What producers and stores see of a reload: nothing."""
+
+    def test_a_line_is_cut(self):
+        """The rest of the line comes after the reload, over the same connection, to the same connection of the store."""
+        store, = self.stores(1)
+        dests = [f"127.0.0.1:{store.port}"]
+        with self.running(dests) as relay, socket.create_connection(("127.0.0.1", relay.line), LIMIT) as producer:
+            producer.sendall(b"a.1 1 1700000000\na.2 2 17")
+            self.wait_for(lambda: store.lines() == [b"a.1 1 1700000000"], "the first line has come")
+            self.reloads(relay, dests)
+            producer.sendall(b"00000000\na.3 3 1700000000\n")
+            self.wait_for(lambda: len(store.lines()) == 3, "all lines have come")
+            self.assertEqual(store.lines(), [b"a.%d %d 1700000000" % (n, n) for n in (1, 2, 3)])
+            self.assertEqual(store.connections(), 1)
+            self.stops(relay)
+
+    def test_a_frame_is_cut(self):
+        """Within its length, and within its rows; a frame that is split over two reloads too."""
+        store, = self.stores(1)
+        dests = [f"127.0.0.1:{store.port}"]
+        whole = frame(pickle.dumps([("p.%d" % number, (1700000000, number)) for number in range(500)], 2))
+        with self.running(dests) as relay, socket.create_connection(("127.0.0.1", relay.pickle), LIMIT) as producer:
+            for cut in (2, 700):
+                producer.sendall(whole[:cut])
+                self.wait_for(lambda: sockets.unread(relay.pickle) == 0, "it is read")
+                self.reloads(relay, dests)
+                producer.sendall(whole[cut:cut + 100])
+                self.wait_for(lambda: sockets.unread(relay.pickle) == 0, "it is read")
+                self.reloads(relay, dests)
+                producer.sendall(whole[cut + 100:])
+            self.wait_for(lambda: len(store.lines()) == 1_000, "all rows have come")
+            self.assertEqual(store.lines(), [b"p.%d %d 1700000000" % (number, number) for number in range(500)] * 2)
+            self.stops(relay)
+
+    def test_datagrams(self):
+        """The socket stays open: what comes meanwhile waits there."""
+        store, = self.stores(1)
+        dests = [f"127.0.0.1:{store.port}"]
+        with self.running(dests) as relay:
+            for number in range(5):
+                relay.datagram(b"u.%d 1 1700000000\n" % number)
+                self.reloads(relay, dests)
+            self.wait_for(lambda: len(store.lines()) == 5, "all have come")
+            self.assertEqual(sorted(store.lines()), [b"u.%d 1 1700000000" % number for number in range(5)])
+            self.stops(relay)
+
+    def test_a_store_in_the_middle_of_a_line(self):
+        """A store that reads nothing keeps its connection over several reloads, and gets all once, in order."""
+        store, = self.stores(1, reads=False, room=4096)
+        dests = [f"127.0.0.1:{store.port}"]
+        with self.running(dests, MAX_QUEUE_SIZE="100000") as relay:
+            for turn in range(4):
+                relay.lines(text_of(LONG[turn * 5_000:][:5_000]))
+                self.wait_for(lambda: relay.totals()["kept"] == (turn + 1) * 5_000, "all lines are queued")
+                self.reloads(relay, dests, MAX_QUEUE_SIZE="100000")
+            store.read_on()
+            self.wait_for(lambda: len(store.lines()) == len(LONG), "all lines have come")
+            self.assertEqual(store.lines(), LONG)
+            self.assertEqual(store.connections(), 1)
+            self.stops(relay)
+
+    def test_a_store_that_comes_back(self):
+        """What was queued for a store that is away goes out first once it is there."""
+        port, = free_ports(1)
+        dests = [f"127.0.0.1:{port}"]
+        lines = numbered(3_000)
+        with self.running(dests) as relay:
+            for turn in range(3):
+                relay.lines(text_of(lines[turn * 1_000:][:1_000]))
+                self.wait_for(lambda: relay.totals()["kept"] == (turn + 1) * 1_000, "all lines are queued")
+                self.reloads(relay, dests)
+            self.assertEqual(relay.totals()["queued"], 3_000)
+            store = Store(port)
+            self.addCleanup(store.stop)
+            store.start()
+            self.wait_for(lambda: len(store.lines()) == 3_000, "all lines have come")
+            self.assertEqual(store.lines(), lines)
+            self.wait_for(lambda: relay.totals()["queued"] == 0, "nothing is queued")
+            self.stops(relay)
+
+    def test_more_is_left_than_a_queue_holds(self):
+        """What does not fit is dropped and counted, as where a queue is full."""
+        port, = free_ports(1)
+        dests = [f"127.0.0.1:{port}"]
+        lines = numbered(250)
+        with self.running(dests, MAX_QUEUE_SIZE="100") as relay:
+            for turn in range(5):
+                relay.lines(text_of(lines[turn * 50:][:50]))
+                self.wait_for(lambda: relay.totals()["queued"] >= min(50 * (turn + 1), 100), "all lines are queued")
+                self.wait_for(lambda: relay.totals()["offered"] >= 50 * (turn + 1), "all lines are offered")
+                self.reloads(relay, dests, MAX_QUEUE_SIZE="100")
+            counts = relay.totals()
+            self.assertEqual((counts["queued"], counts["dropped"]), (100, 150))
+            self.assertEqual(counts["offered"], counts["kept"] + counts["dropped"])
+            self.assertEqual(counts["kept"], counts["queued"] + counts["taken"])
+            store = Store(port)
+            self.addCleanup(store.stop)
+            store.start()
+            self.wait_for(lambda: len(store.lines()) == 100, "what fitted has come")
+            self.assertEqual(store.lines(), lines[:100])
+            self.stops(relay)
+
+    def test_several_threads(self):
+        """With several receivers of lines and several senders each connection and each store goes on."""
+        stores = self.stores(3)
+        dests = [f"127.0.0.1:{store.port}" for store in stores]
+        options = ("--line-receivers", "3", "--senders", "2")
+        with self.running(dests, options=options) as relay, contextlib.ExitStack() as at_end:
+            producers = [at_end.enter_context(socket.create_connection(("127.0.0.1", relay.line), LIMIT))
+                         for _ in range(12)]
+            kept = [b""] * len(producers)
+            for turn in range(5):
+                for number, producer in enumerate(producers):
+                    text = kept[number] + b"l%d.%d %d 1700000000\n" % (number, turn, turn)
+                    cut = random.randrange(1, len(text))
+                    producer.sendall(text[:cut])
+                    kept[number] = text[cut:]
+                # A destination has another place, and another sender.
+                dests = dests[1:] + dests[:1]
+                self.reloads(relay, dests)
+            for number, producer in enumerate(producers):
+                producer.sendall(kept[number])
+            for store in stores:
+                self.wait_for(lambda: len(store.lines()) == 60, "all lines have come")
+                self.assertEqual(store.connections(), 1)
+                for number in range(len(producers)):
+                    start = b"l%d." % number
+                    self.assertEqual([line for line in store.lines() if line.startswith(start)],
+                                     [b"l%d.%d %d 1700000000" % (number, turn, turn) for turn in range(5)])
+            self.stops(relay)
+
+    def test_an_idle_connection(self):
+        """It is closed as soon as without reloads."""
+        store, = self.stores(1)
+        dests = [f"127.0.0.1:{store.port}"]
+        with self.running(dests, options=("--idle", "2")) as relay:
+            with socket.create_connection(("127.0.0.1", relay.line), LIMIT) as producer:
+                producer.sendall(b"a 1 17")
+                producer.settimeout(0.5)
+                began = time.monotonic()
+                closed = False
+                while not closed and time.monotonic() < began + LIMIT:
+                    self.reloads(relay, dests)
+                    with contextlib.suppress(socket.timeout):
+                        closed = producer.recv(1) == b""
+                self.assertTrue(closed)
+                self.assertGreaterEqual(time.monotonic() - began, 2)
+            self.stops(relay)
+
+    def test_a_drain_after_a_reload(self):
+        """A stop waits for what an ended run left, as for what is queued."""
+        store, = self.stores(1, reads=False, room=4096)
+        dests = [f"127.0.0.1:{store.port}"]
+        with self.running(dests, options=("--drain", FOREVER), MAX_QUEUE_SIZE="100000") as relay:
+            relay.lines(text_of(LONG))
+            self.wait_for(lambda: relay.totals()["kept"] == len(LONG), "all lines are queued")
+            self.reloads(relay, dests, MAX_QUEUE_SIZE="100000")
+            slowly = threading.Event()
+            reader = threading.Thread(target=store.read_slowly, args=(0.05, slowly))
+            reader.start()
+            self.assertEqual(relay.command(b"stop"), b"stopping\n")
+            time.sleep(0.5)
+            self.assertIsNone(relay.child.poll())
+            slowly.set()
+            reader.join(LIMIT)
+            store.read_on()
+            self.assertEqual(relay.child.wait(LIMIT), 0)
+            self.wait_for(lambda: len(store.lines()) == len(LONG), "all lines have come")
+            self.assertEqual(store.lines(), LONG)
+            relay.log.thread.join(LIMIT)
+            self.assertIn(b"relay stopped, 0 datapoints not sent\n", relay.log.lines)
+
+    def test_a_spool_that_is_being_sent(self):
+        """The file of an earlier run goes on where it was, and what came since is behind it."""
+        folder = self.path("spool")
+        os.mkdir(folder)
+        store, = self.stores(1, reads=False, room=4096)
+        dests = [f"127.0.0.1:{store.port}"]
+        with open(os.path.join(folder, dests[0]), "wb") as file:
+            file.write(text_of(LONG))
+        later = numbered(100, b"later")
+        with self.running(dests, options=("--spool", folder)) as relay:
+            self.wait_for(lambda: sockets.unsent(store.port) > 0, "a part is sent")
+            relay.lines(text_of(later))
+            self.wait_for(lambda: relay.totals()["kept"] == 100, "all lines are queued")
+            for _ in range(2):
+                self.reloads(relay, dests)
+            store.read_on()
+            self.wait_for(lambda: len(store.lines()) == len(LONG) + 100, "all lines have come")
+            self.assertEqual(store.lines(), LONG + later)
+            self.assertEqual(store.connections(), 1)
+            self.stops(relay)
+        self.assertEqual(os.listdir(folder), ["~lock"])
+
+    def test_a_stop_after_reloads(self):
+        """The file of a store that is away has what ended runs left, and then what is queued."""
+        folder = self.path("spool")
+        os.mkdir(folder)
+        port, = free_ports(1)
+        dests = [f"127.0.0.1:{port}"]
+        lines = numbered(300)
+        with self.running(dests, options=("--spool", folder)) as relay:
+            for turn in range(3):
+                relay.lines(text_of(lines[turn * 100:][:100]))
+                self.wait_for(lambda: relay.totals()["kept"] == (turn + 1) * 100, "all lines are queued")
+                if turn < 2:
+                    self.reloads(relay, dests)
+            self.stops(relay)
+        with open(os.path.join(folder, dests[0]), "rb") as file:
+            self.assertEqual(file.read(), text_of(lines))
+
+
+class Changes(Reloads):
+    """What a reload changes."""
+
+    def test_a_destination_more_and_less(self):
+        """A rule sends to a new store, and no more once it is gone; the log says what changed."""
+        one, two = self.stores(2)
+        names = [f"127.0.0.1:{store.port}" for store in (one, two)]
+        rules = f"[two]\npattern = ^b\ndestinations = {names[1]}\n" + ALL.format(names[0])
+        with self.running(names[:1]) as relay, socket.create_connection(("127.0.0.1", relay.line), LIMIT) as producer:
+            producer.sendall(b"a.1 1 1700000000\nb.1 1 1700000000\n")
+            self.wait_for(lambda: len(one.lines()) == 2, "both lines have come")
+            self.reloads(relay, names, rules)
+            producer.sendall(b"a.2 1 1700000000\nb.2 1 1700000000\n")
+            self.wait_for(lambda: two.lines() == [b"b.2 1 1700000000"], "one line has come to the new store")
+            self.reloads(relay, names[:1])
+            producer.sendall(b"a.3 1 1700000000\nb.3 1 1700000000\n")
+            self.wait_for(lambda: len(one.lines()) == 5, "the others have come to the old one")
+            self.assertEqual(two.lines(), [b"b.2 1 1700000000"])
+            self.stops(relay)
+        said = [line for line in relay.log.lines if line.startswith((b"relay reloaded", b"run "))]
+        self.assertEqual(said, [
+            b"relay reloaded: destination %s added, rules changed\n" % names[1].encode(), b"run 1: settled\n",
+            b"relay reloaded: destination %s gone, rules changed\n" % names[1].encode(), b"run 2: settled\n"])
+
+    def test_the_files_of_the_start(self):
+        """Without files the relay reads those again that it began with."""
+        one, two = self.stores(2)
+        names = [f"127.0.0.1:{store.port}" for store in (one, two)]
+        config = self.path("start.conf")
+        rules = self.write("start-rules.conf", ALL.format(names[0]))
+        *listening, admin = free_ports(4)
+        self.write("start.conf", self.configuration(names[:1], listening))
+        words = ["run", "--config", config, "--rules", rules, "--admin", str(admin)]
+        with held(words, bufsize=0) as child:
+            relay = Relay(child, *listening, admin)
+            self.assertTrue(relay.is_ready())
+            self.write("start.conf", self.configuration(names[1:], listening))
+            self.write("start-rules.conf", ALL.format(names[1]))
+            self.assertEqual(self.reload(relay), RELOADED)
+            relay.lines(b"a 1 1700000000\n")
+            self.wait_for(lambda: two.lines() == [b"a 1 1700000000"], "the line has come to the new store")
+            self.settles(relay)
+
+    def test_a_gone_destination_gets_all(self):
+        """What was held for it is sent as far as --drain allows."""
+        slow, other = self.stores(2, reads=False, room=4096)
+        names = [f"127.0.0.1:{store.port}" for store in (slow, other)]
+        with self.running(names, options=("--drain", FOREVER), MAX_QUEUE_SIZE="100000") as relay:
+            relay.lines(text_of(LONG))
+            self.wait_for(lambda: all(counts["kept"] == len(LONG) for _, counts in relay.report()), "all is queued")
+            self.reloads(relay, names[1:], MAX_QUEUE_SIZE="100000")
+            self.assertEqual([name for name, _ in relay.report()], names[1:])
+            slow.read_on()
+            self.wait_for(lambda: len(slow.lines()) == len(LONG), "all lines have come")
+            self.assertEqual(slow.lines(), LONG)
+            self.wait_for(lambda: b"gone, 0 datapoints not sent" in relay.log.of(names[0]), "the log says so")
+            other.read_on()
+            self.stops(relay)
+            self.wait_for(lambda: len(other.lines()) == len(LONG), "the other one has all")
+
+    def test_a_gone_destination_is_spooled_or_counted(self):
+        """Without --drain nothing more is sent: files keep what was held, or it is counted."""
+        port, = free_ports(1)
+        there, = self.stores(1)
+        names = [f"127.0.0.1:{port}", f"127.0.0.1:{there.port}"]
+        lines = numbered(100)
+        folder = self.path("spool")
+        os.mkdir(folder)
+        for options, said in (((), b"gone, 100 datapoints not sent"), (("--spool", folder), b"gone, 100 datapoints spooled")):
+            with self.subTest(options), self.running(names, options=options) as relay:
+                relay.lines(text_of(lines))
+                self.wait_for(lambda: relay.report()[0][1]["kept"] == 100, "all lines are queued")
+                self.reloads(relay, names[1:])
+                self.wait_for(lambda: said in relay.log.of(names[0]), "the log says so")
+                self.stops(relay)
+        with open(os.path.join(folder, names[0]), "rb") as file:
+            self.assertEqual(file.read(), text_of(lines))
+
+    def test_a_gone_destination_returns(self):
+        """With the next reload it has what was still held for it, and its connection."""
+        slow, other = self.stores(2, reads=False, room=4096)
+        names = [f"127.0.0.1:{store.port}" for store in (slow, other)]
+        other.read_on()
+        with self.running(names, options=("--drain", FOREVER), MAX_QUEUE_SIZE="100000") as relay:
+            relay.lines(text_of(LONG))
+            self.wait_for(lambda: all(counts["kept"] == len(LONG) for _, counts in relay.report()), "all is queued")
+            self.reloads(relay, names[1:], MAX_QUEUE_SIZE="100000")
+            self.reloads(relay, names, MAX_QUEUE_SIZE="100000")
+            relay.lines(text_of(numbered(10, b"later")))
+            self.wait_for(lambda: relay.report()[0][1]["offered"] >= 10, "more is queued")
+            counts = relay.report()[0][1]
+            self.assertEqual(counts["kept"], counts["queued"] + counts["taken"])
+            self.assertEqual(counts["offered"], counts["kept"] + counts["dropped"])
+            slow.read_on()
+            self.wait_for(lambda: len(slow.lines()) == len(LONG) + 10, "all lines have come")
+            self.assertEqual(slow.lines(), LONG + numbered(10, b"later"))
+            self.assertEqual(slow.connections(), 1)
+            self.stops(relay)
+
+    def test_counts_go_on(self):
+        """Those of report, status and metrics are of all runs, and never fall."""
+        store, = self.stores(1)
+        dests = [f"127.0.0.1:{store.port}"]
+        status, = free_ports(1)
+        with self.running(dests, options=("--status", str(status))) as relay:
+            with socket.create_connection(("127.0.0.1", relay.line), LIMIT) as producer:
+                for turn in range(1, 4):
+                    producer.sendall(b"a 1 1700000000\nbad\n" * 100)
+                    self.wait_for(lambda: len(store.lines()) == 100 * turn, "all lines have come")
+                    self.wait_for(lambda: relay.totals()["taken"] == 100 * turn, "all are counted")
+                    self.reloads(relay, dests)
+                    counts = relay.totals()
+                    self.assertEqual(counts, {"queued": 0, "offered": 100 * turn, "kept": 100 * turn, "dropped": 0,
+                                              "taken": 100 * turn})
+                    self.wait_for(lambda: self.received(relay, status) == (100 * turn, 100 * turn), "the status has them")
+                    there = self.status(relay, status)["destinations"][0]
+                    self.assertTrue(there["connected"])
+            self.stops(relay)
+
+    def received(self, relay, port):
+        """How many datapoints and bad lines the status has."""
+        receivers = self.status(relay, port)["receivers"]
+        return tuple(sum(it[name] for it in receivers) for name in ("datapoints", "bad_lines"))
+
+    def test_records(self):
+        """Each run that another one follows has a record of its own, and the last one has the file itself."""
+        store, = self.stores(1)
+        dests = [f"127.0.0.1:{store.port}"]
+        record = self.path("record")
+        with self.running(dests, options=("--record", record)) as relay:
+            for turn in range(3):
+                if turn:
+                    self.reloads(relay, dests)
+                relay.lines(b"run.%d 1 1700000000\n" % turn)
+                self.wait_for(lambda: len(store.lines()) == turn + 1, "the line has come")
+            self.stops(relay)
+        for turn, name in enumerate((record + ".1", record + ".2", record)):
+            with open(name, encoding="ascii") as file:
+                text = file.read()
+            self.assertIn((b"run.%d" % turn).hex(), text)
+
+
+class Refusals(Reloads):
+    """What a relay does not take: it goes on as it was."""
+
+    def refuses(self, relay, expected, *words):
+        """A case: the reload is refused so, and the relay sends as before."""
+        with self.subTest(words):
+            self.assertEqual(self.reload(relay, *words), expected)
+            relay.lines(b"a 1 1700000000\n")
+            relay.sent += 1
+            self.wait_for(lambda: len(relay.store.lines()) == relay.sent, "the relay sends as before")
+
+    def test_refusals(self):
+        store, = self.stores(1)
+        dests = [f"127.0.0.1:{store.port}"]
+        with self.running(dests) as relay:
+            relay.store, relay.sent = store, 0
+            good = self.files(relay, dests)
+            bad = self.write("bad.conf", "[relay]\nDESTINATIONS = a:b\n")
+            ran = self.reload(relay, "--config", bad)
+            self.assertEqual((ran.status, ran.out), (1, b""))
+            self.assertTrue(ran.err.startswith(b"relayd: config: "), ran)
+            self.assertEqual(ran.err.count(b"\n"), 1)
+            explained = self.reload(relay, "--config", bad, "--explain")
+            self.assertEqual(explained.status, 1)
+            self.assertTrue(explained.err.startswith(ran.err + b"relayd: note: "), explained)
+            self.refuses(relay, ran, "--config", bad)
+            away = self.path("away.conf")
+            self.refuses(relay, Ran(3, b"", b"relayd: config: cannot read: %s\n" % away.encode()), "--config", away)
+            ports = list(relay.listening)
+            ports[0] = free_ports(1)[0]
+            other = self.write("port.conf", self.configuration(dests, ports))
+            self.refuses(relay, Ran(1, b"", b"relayd: LINE_RECEIVER_PORT: needs a restart\n"),
+                         "--config", other, *good[2:])
+            self.assertEqual(self.reload(relay, *good), RELOADED)
+            self.refuses(relay, ran, "--config", bad)
+            self.stops(relay)
+
+    def test_no_relay(self):
+        port, = free_ports(1)
+        ran = run(("reload", "--admin", str(port)))
+        self.assertEqual((ran.status, ran.out), (3, b""))
+        ran = run(("reload", "--config", "relative.conf", "--admin", str(port)))
+        self.assertEqual(ran.status, 2)
+
+    def test_a_stop_at_once(self):
+        """A stop that comes while a reload is under way is answered by the run that follows, or the reload by nobody."""
+        store, = self.stores(1)
+        dests = [f"127.0.0.1:{store.port}"]
+        for _ in range(5):
+            with self.running(dests) as relay:
+                lines = numbered(1_000)
+                relay.lines(text_of(lines))
+                words = self.files(relay, dests)
+                ran = []
+                asking = threading.Thread(target=lambda: ran.append(self.reload(relay, *words)))
+                asking.start()
+                time.sleep(random.random() * 0.02)
+                self.assertEqual(relay.command(b"stop"), b"stopping\n")
+                self.assertEqual(relay.child.wait(LIMIT), 0)
+                asking.join(LIMIT)
+                self.assertIn(ran[0].out, (b"reloaded\n", b""))
+                self.assertEqual(relay.child.stdout.read(), b"settled\n")
+
+    def test_out_of_memory(self):
+        """A configuration for which there is no memory is refused, and the relay goes on."""
+        store, = self.stores(1)
+        dests = [f"127.0.0.1:{store.port}"]
+
+        def limit():
+            resource.setrlimit(resource.RLIMIT_AS, (1_000_000_000, 1_000_000_000))
+
+        with self.running(dests, before=limit) as relay:
+            relay.store, relay.sent = store, 0
+            many = dests + [f"127.0.0.1:{port}" for port in free_ports(40)]
+            words = self.files(relay, many, MAX_QUEUE_SIZE="1000000")
+            ran = self.reload(relay, *words)
+            self.assertEqual(ran, Ran(4, b"", b"relayd: no memory\n"))
+            self.refuses(relay, ran, *words)
+            self.assertEqual(self.reload(relay, *self.files(relay, dests)), RELOADED)
+            self.stops(relay)
+
+
+class Memory(Reloads):
+    """A reload in which one growth of memory is refused."""
+
+    COUNT = 50  # lines that are queued
+    TRIES = 40  # of the growths
+
+    def test_each_growth(self):
+        """The relay goes on as it was, or by the new files, or it ends with status 4: what it held is in its file then."""
+        library = refused.compiled(os.fspath(self.folder))
+        growths, tried = self.growths(library), 0
+        self.assertGreater(growths, 0)
+        step = 1 if Settings.longer else max(growths // self.TRIES, 1)
+        ends = collections.Counter()
+        for growth in range(1 + random.randrange(step), growths + 1, step):
+            with self.subTest(growth=growth):
+                ends[self.tried(library, growth)] += 1
+                tried += 1
+        print(f"\nof {growths} growths {tried} were refused: {dict(ends)}", flush=True)
+
+    def growths(self, library):
+        """How many growths a reload has, about."""
+        least, most = 1, 1 << 14
+        while least < most:
+            middle = (least + most) // 2
+            if self.tried(library, middle) == "nothing":
+                most = middle
+            else:
+                least = middle + 1
+        return least - 1
+
+    def tried(self, library, growth):
+        """What became of a reload in which this growth was refused, or `nothing` if there was no such growth."""
+        port, = free_ports(1)
+        dests = [f"127.0.0.1:{port}"]
+        lines = numbered(self.COUNT)
+        with tempfile.TemporaryDirectory() as folder:
+            start = os.path.join(folder, "~start")
+
+            def before():
+                os.environ.update({"LD_PRELOAD": library, "REFUSE_GROWTH": str(growth), "REFUSE_FROM": start})
+
+            spool = os.path.join(folder, "spool")
+            os.mkdir(spool)
+            with self.running(dests, options=("--spool", spool), before=before) as relay:
+                relay.lines(text_of(lines))
+                self.wait_for(lambda: relay.totals()["queued"] == self.COUNT, "all lines are queued")
+                with open(start, "wb"):
+                    pass
+                ran = self.reload(relay, *self.files(relay, dests))
+                os.remove(start)
+                end = self.end_of(relay, ran)
+            held_lines = os.path.join(spool, dests[0])
+            self.assertTrue(os.path.exists(held_lines), f"growth {growth}, {end}: nothing is in the file")
+            with open(held_lines, "rb") as file:
+                self.assertEqual(file.read(), text_of(lines), (growth, end))
+            return end if b"refused\n" in relay.log.lines else "nothing"
+
+    def end_of(self, relay, ran):
+        """How the relay went on behind a reload that ended so."""
+        if ran.status == 3:  # its connection was closed without an answer
+            with contextlib.suppress(subprocess.TimeoutExpired):
+                self.assertEqual(relay.child.wait(1), 4)
+                relay.log.thread.join(LIMIT)
+                self.assertIn(b"relayd: no memory\n", relay.log.lines)
+                return "ended"
+        else:
+            self.assertIn(ran, (RELOADED, Ran(4, b"", b"relayd: no memory\n")))
+        self.assertEqual(relay.totals()["queued"], self.COUNT)
+        self.stops(relay)
+        return {0: "reloaded", 3: "no answer", 4: "as it was"}[ran.status]
+
+
+class Producer(threading.Thread):
+    """A producer of lines or of pickles, whose sends end anywhere in a line or a frame."""
+
+    RATE = 1_000  # datapoints a second
+    PAUSE = 0.02  # seconds
+
+    def __init__(self, kind, number, port):
+        super().__init__(daemon=True)
+        self.name_of = b"%s%d" % (kind, number)
+        self.is_pickle = kind == b"p"
+        self.port = port
+        self.sent = 0
+        self.is_over = threading.Event()
+        self.fault = None
+
+    def piece(self, count):
+        """The text of the next datapoints."""
+        numbers = range(self.sent, self.sent + count)
+        self.sent += count
+        if self.is_pickle:
+            name = self.name_of.decode()
+            return frame(pickle.dumps([(f"{name}.{number}", (1700000000, number)) for number in numbers], 2))
+        return b"".join(b"%s.%d %d 1700000000\n" % (self.name_of, number, number) for number in numbers)
+
+    def run(self):
+        kept = b""
+        began = time.monotonic()
+        try:
+            with socket.create_connection(("127.0.0.1", self.port), LIMIT) as stream:
+                while not self.is_over.is_set():
+                    due = int((time.monotonic() - began) * self.RATE) - self.sent
+                    if due > 0:
+                        kept += self.piece(due)
+                        cut = len(kept) - random.randrange(min(len(kept), 30))
+                        stream.sendall(kept[:cut])
+                        kept = kept[cut:]
+                    time.sleep(self.PAUSE)
+                stream.sendall(kept)
+                stream.shutdown(socket.SHUT_WR)
+                while stream.recv(4096):
+                    pass
+        except OSError as fault:
+            self.fault = fault
+
+
+class Datagrams(Producer):
+    """A producer of datagrams, a line each."""
+
+    def run(self):
+        began = time.monotonic()
+        with socket.socket(socket.AF_INET, socket.SOCK_DGRAM) as sender:
+            while not self.is_over.is_set():
+                due = int((time.monotonic() - began) * self.RATE) - self.sent
+                for _ in range(max(due, 0)):
+                    sender.sendto(self.piece(1), ("127.0.0.1", self.port))
+                time.sleep(0.005)
+
+
+class InARow(Reloads):
+    """Many reloads in a row under load."""
+
+    def test_many_reloads(self):
+        """20,000 datapoints a second over 20 connections, and 1,000 datagrams: each arrives where one of the two configurations
+        sends it, once, in order per connection; a store that is away has a full queue, and one is slow."""
+        count = 200 if Settings.longer else 50
+        keep, slow, extra = self.stores(3)
+        away, = free_ports(1)
+        names = [f"127.0.0.1:{port}" for port in (keep.port, slow.port, away, extra.port)]
+        slow.stop()
+        slow = Store(slow.port, reads=False, room=4096)
+        self.addCleanup(slow.stop)
+        slow.start()
+        few = f"[slow]\npattern = ^l0\\.\ncontinue = true\ndestinations = {names[1]}\n" \
+              f"[away]\npattern = ^l1\\.\ncontinue = true\ndestinations = {names[2]}\n" + ALL.format(names[0])
+        more = f"[extra]\npattern = ^(l|p)2\\.\ncontinue = true\ndestinations = {names[3]}\n" + few
+        queue = {"MAX_QUEUE_SIZE": "100000"}
+        with self.running(names[:3], few, options=("--drain", FOREVER), **queue) as relay:
+            producers = [Producer(b"l", number, relay.line) for number in range(17)]
+            producers += [Producer(b"p", number, relay.pickle) for number in range(3)]
+            datagrams = Datagrams(b"u", 0, relay.udp)
+            for producer in (*producers, datagrams):
+                producer.start()
+            times = []
+            for turn in range(count):
+                words = self.files(relay, names, more, **queue) if turn % 2 == 0 else \
+                    self.files(relay, names[:3], few, **queue)
+                began = time.monotonic()
+                self.assertEqual(self.reload(relay, *words), RELOADED)
+                times.append(time.monotonic() - began)
+                if turn == count // 2:
+                    slow.read_on()
+            for producer in (*producers, datagrams):
+                producer.is_over.set()
+            for producer in (*producers, datagrams):
+                producer.join(LIMIT)
+                self.assertIsNone(producer.fault)
+            total = sum(producer.sent for producer in (*producers, datagrams))
+            self.wait_for(lambda: len(keep.lines()) >= total, "all datapoints have come")
+            sent = {producer.name_of: producer.sent for producer in (*producers, datagrams)}
+            self.assertEqual(self.counted(keep.lines()), sent)
+            self.assertEqual(keep.connections(), 1)
+            self.wait_for(lambda: len(slow.lines()) >= sent[b"l0"], "the slow store has all")
+            self.assertEqual(self.counted(slow.lines()), {b"l0": sent[b"l0"]})
+            self.in_order(extra.lines(), sent)
+            dropped = dict(relay.report())[names[2]]
+            self.assertEqual(dropped["offered"], dropped["kept"] + dropped["dropped"])
+            self.assertEqual(dropped["kept"], dropped["queued"] + dropped["taken"])
+            back = Store(away)
+            self.addCleanup(back.stop)
+            back.start()
+            self.wait_for(lambda: len(back.lines()) >= dropped["queued"], "the store that was away has what was queued")
+            self.in_order(back.lines(), sent)
+            self.stops(relay, last=None)
+        print(f"\n{count} reloads, {total} datapoints: median {sorted(times)[count // 2] * 1000:.1f} ms, "
+              f"greatest {max(times) * 1000:.1f} ms", flush=True)
+
+    def counted(self, lines):
+        """How many lines came of each producer: all from 0 on, each once, in order."""
+        counts = {}
+        for line in lines:
+            found = NUMBERED.fullmatch(line)
+            if not found:
+                self.fail(f"a line that nobody sent: {line!r}")
+            name = found[1] + found[2]
+            if int(found[3]) != counts.get(name, 0) or int(found[4]) != int(found[3]):
+                self.fail(f"{line!r} comes where {counts.get(name, 0)} is next")
+            counts[name] = counts.get(name, 0) + 1
+        return counts
+
+    def in_order(self, lines, sent):
+        """Each line is one that was sent, once, in the order of its producer."""
+        last = {}
+        for line in lines:
+            found = NUMBERED.fullmatch(line)
+            name, number = found[1] + found[2], int(found[3])
+            if number <= last.get(name, -1) or number >= sent[name]:
+                self.fail(f"{line!r} comes behind {last.get(name)}")
+            last[name] = number
+
+    def stops(self, relay, last=b"settled\n"):
+        if last is not None:
+            super().stops(relay, last)
+            return
+        self.assertEqual(relay.command(b"stop"), b"stopping\n")
+        self.assertEqual(relay.child.wait(LIMIT), 0)
+        self.assertRegex(relay.child.stdout.read(), rb"settled\n|sealed \d+\n")
+        relay.log.thread.join(LIMIT)
