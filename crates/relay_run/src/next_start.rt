@@ -18,7 +18,7 @@ use std::alloc::Global;
 use std::mem;
 
 /// The places of the destinations of a run that follows another one: empty lists with room for all. Once they are there,
-/// nothing that is left can be lost for want of memory.
+/// what is left needs no more memory.
 #[derive(Drop)]
 struct NewPlaces {
     slots: DestSlots,

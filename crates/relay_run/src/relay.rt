@@ -31,7 +31,7 @@ use std::time::Instant;
 pub(crate) const NAME: u64 = 1;
 
 /// What a run is made of, and its threads borrow: its configuration and its numbers, its queues, the gate that wakes the
-/// senders, and what the threads share beside these; what some of them are told at the end; what is left for destinations
+/// senders, and what the threads share beside these; the orders that some get at the end; what is left for destinations
 /// between two runs, and for those that are gone, with what wakes their sender; the connections that go from one run to the
 /// next; and what the first thread has for the log.
 #[derive(Drop)]

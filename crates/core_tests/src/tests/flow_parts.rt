@@ -256,7 +256,7 @@ pub(crate) fn in_threads<
     let mut doors = doors.into_iter();
     let (first_seat, second_seat) = (doors.next(), doors.next());
     let outlet_seat = outlets.into_iter().next();
-    // A thread that did not start is told by what it gave: an early end here would drop all the others in each place.
+    // A thread that did not start gives nothing. An early end here would drop all the others in each place.
     thread::scope(thread::scope_env(), rt, |scope| -> Records {
         let first = scope
             .spawn(move || receive(rt, alloc, common, first_seat, first, 0))
