@@ -2,4 +2,5 @@ pub mod AdminCommand
 pub mod ReloadAnswer
 pub mod ReloadText
 pub mod ReloadRequest
+pub mod ReloadNames
 pub mod AdminAnswer

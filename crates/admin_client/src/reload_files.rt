@@ -1,13 +1,13 @@
 //! The files that a reload names.
 
-ghost use Rattle.std.specs.Prelude.{◌≡◌, None, Some, MatchOption};
-ghost use Rattle.admin_client.specs.ReloadRequest.{value_in};
+ghost use Rattle.std.specs.Prelude.{◌≡◌, ◌++◌, None, Some, option_map, IfOk, OnOk, MatchOption};
+ghost use Rattle.std.specs.String.{string_bytes};
+ghost use Rattle.admin_client.specs.ReloadRequest.{value_in, text_in, files_in, request_of, value_line, can_be_named};
+ghost use Rattle.admin_client.specs.ReloadNames.{names_of};
 
 use crate::reload_answer::behind;
-use relay_base::NoMemory;
+use relay_base::{NoMemory, utf8_text};
 use std::alloc::Global;
-use std::fmt::Write as _;
-use std::str;
 
 /// How many bytes the text that asks for a reload has at most: three paths of 4,096 bytes, and the words before them. A longer
 /// one is none.
@@ -37,7 +37,9 @@ pub struct ReloadFiles<'a> {
 
 /// The files that a request for a reload names; `None` if it names no configuration file: then those that the run began with
 /// are read again. A value that is not UTF-8 is none.
-pub fn reload_files_in(sent: &[u8]) -> Option<ReloadFiles<'_>> {
+pub fn reload_files_in(sent: &[u8]) -> Option<ReloadFiles<'_>>
+    ensures { option_map names_of result ≡ files_in sent.now }
+{
     Some(ReloadFiles {
         config: text_in(CONFIG, sent)?,
         rules: text_in(RULES, sent),
@@ -47,8 +49,10 @@ pub fn reload_files_in(sent: &[u8]) -> Option<ReloadFiles<'_>> {
 }
 
 /// The text that a request has under these words.
-fn text_in<'a>(words: &str, sent: &'a [u8]) -> Option<&'a str> {
-    str::from_utf8(value_in(words.as_bytes(), sent)?).ok()
+fn text_in<'a>(words: &str, sent: &'a [u8]) -> Option<&'a str>
+    ensures { option_map (λ text. text.now) result ≡ text_in words.now sent.now }
+{
+    utf8_text(value_in(words.as_bytes(), sent)?)
 }
 
 /// What a request has behind these words, in the first line that begins with them.
@@ -66,7 +70,9 @@ fn value_in<'a>(words: &[u8], sent: &'a [u8]) -> Option<&'a [u8]>
 
 /// The text that asks for a reload by these files, or by those that the run began with. Refuses if out of memory. The values
 /// have no byte 10 ([`can_be_named`]).
-pub fn reload_request(alloc: Global, files: Option<ReloadFiles<'_>>) -> Result<String, NoMemory> {
+pub fn reload_request(alloc: Global, files: Option<ReloadFiles<'_>>) -> Result<String, NoMemory>
+    ensures { IfOk result (λ text. string_bytes text ≡ request_of (option_map names_of files.entry)) }
+{
     let mut text = String::from_str(alloc, "reload\n")?;
     if let Some(files) = files {
         push_value(&mut text, CONFIG, Some(files.config))?;
@@ -78,17 +84,25 @@ pub fn reload_request(alloc: Global, files: Option<ReloadFiles<'_>>) -> Result<S
 }
 
 /// Adds the line of a value, if there is one.
-fn push_value(text: &mut String, words: &str, value: Option<&str>) -> Result<(), NoMemory> {
-    if let Some(value) = value {
-        write!(text, "{words}{value}\n")?;
-    }
-    Ok(())
+fn push_value(text: &mut String, words: &str, value: Option<&str>) -> Result<(), NoMemory>
+    ensures { OnOk result (string_bytes text.new
+        ≡ string_bytes text.old ++ value_line words.now (option_map (λ text. text.now) value.entry)) }
+{
+    let Some(value) = value else {
+        return Ok(());
+    };
+    text.push_str(words)?;
+    text.push_str(value)?;
+    Ok(text.push_str("\n")?)
 }
 
 /// Whether a path can be sent to a relay, whose working directory is another: it is from the root on, and has no byte 10 and at
 /// most 4,096 bytes.
-pub fn can_be_named(path: &str) -> bool {
-    path.starts_with('/') && path.len() <= LONGEST_PATH && !path.contains('\n')
+pub fn can_be_named(path: &str) -> bool
+    ensures { result ≡ can_be_named path.now }
+{
+    let bytes = path.as_bytes();
+    bytes.starts_with(b"/") && bytes.len() <= LONGEST_PATH && !bytes.contains(&b'\n')
 }
 
 /// How many bytes a path has at most, by the system.

@@ -1,0 +1,12 @@
+-- What clauses see of the files that a reload names.
+use Rattle.std.specs.Prelude.{option_map}
+use Rattle.admin_client.specs.ReloadRequest.{RequestedFiles}
+use Rattle.admin_client.specs.declared.reload_files.ReloadFiles.{ReloadFiles}
+
+abbrev pub names_of : ReloadFiles → RequestedFiles
+names_of files = record {
+  config = files.config.now;
+  rules = option_map (λ text. text.now) files.rules;
+  rewrite = option_map (λ text. text.now) files.rewrite;
+  longest_name = option_map (λ text. text.now) files.longest_name;
+}
