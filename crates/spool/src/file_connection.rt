@@ -1,6 +1,6 @@
 //! The connection that a file goes out on.
 
-ghost use Rattle.std.specs.Prelude.{◌≡◌, ◌≤◌, ◌↔◌, ℕ, List, [], ◌∷◌, ◌++◌, take, None, Some, IfSome, IsSome, IsTrue};
+ghost use Rattle.std.specs.Prelude.{◌≡◌, ◌≤◌, ◌↔◌, ℕ, List, [], ◌∷◌, ◌++◌, take, true, false, None, Some, IfSome, IsSome, IsTrue};
 ghost use Rattle.spool.specs.Held.{Ends, GoesOn, IsUnderWay};
 ghost use Rattle.spool.specs.Turn.{IfOver};
 
@@ -14,7 +14,7 @@ use std::marker::Model;
 /// The connection that a file goes out on, if there is one. It is the file's own, so that nothing else is written to it,
 /// until the file is sent.
 ///
-/// Clauses see it as what it writes to.
+/// Clauses see it as what it writes to, and whether that takes no more before it is ready.
 #[derive(Drop)]
 pub struct FileConnection<W> {
     sink: Option<W>,
@@ -23,17 +23,20 @@ pub struct FileConnection<W> {
 }
 
 impl<W> Model for FileConnection<W> {
-    ghost use Rattle.std.specs.Prelude.{Option};
+    ghost use Rattle.spool.specs.FileConnection.{ConnectionState};
 
-    ghost Value = { Option W };
+    ghost Value = { ConnectionState W };
 
-    ghost view = { λ c. c.sink };
+    ghost view = { λ c. record {
+      sink = c.sink;
+      blocked = c.is_blocked;
+    } };
 }
 
 impl<W: Drop> FileConnection<W> {
     /// There is no connection.
     pub fn new() -> FileConnection<W>
-        ensures { result ≡ None }
+        ensures { (result.sink ≡ None) × (result.blocked ≡ false) }
     {
         FileConnection {
             sink: None,
@@ -43,19 +46,21 @@ impl<W: Drop> FileConnection<W> {
 
     /// Whether there is a connection.
     pub fn is_open(&self) -> bool
-        ensures { IsTrue result ↔ IsSome self.now }
+        ensures { IsTrue result ↔ IsSome self.now.sink }
     {
         self.sink.is_some()
     }
 
     /// Whether there is a connection that takes more at once.
-    pub fn goes_on(&self) -> bool {
+    pub fn goes_on(&self) -> bool
+        ensures { IsTrue result ↔ (IsSome self.now.sink × (self.now.blocked ≡ false)) }
+    {
         self.sink.is_some() && !self.is_blocked
     }
 
     /// From now on this is the connection.
     pub fn keep(&mut self, sink: W)
-        ensures { self.new ≡ Some sink }
+        ensures { (self.new.sink ≡ Some sink) × (self.new.blocked ≡ false) }
     {
         *self = FileConnection {
             sink: Some(sink),
@@ -65,8 +70,8 @@ impl<W: Drop> FileConnection<W> {
 
     /// Takes the connection out, if there is one: it may go on elsewhere ([`FileConnection::keep`]).
     pub fn take(&mut self) -> Option<W>
-        ensures taken { result ≡ self.old }
-        ensures none { self.new ≡ None }
+        ensures taken { result ≡ self.old.sink }
+        ensures none { (self.new.sink ≡ None) × (self.new.blocked ≡ false) }
     {
         self.is_blocked = false;
         self.sink.take()
@@ -74,15 +79,15 @@ impl<W: Drop> FileConnection<W> {
 
     /// The connection is ready.
     pub fn note_ready(&mut self)
-        ensures { self.new ≡ self.old }
+        ensures { self.new ≡ record self.old { blocked = false } }
     {
         self.is_blocked = false;
     }
 
     /// The connection is gone, if there is one: the next one gets the file from the first line that it did not take whole.
     pub(crate) fn lose(&mut self, cursor: &mut Cursor)
-        ensures gone { self.new ≡ None }
-        ensures again { IsSome self.old
+        ensures gone { self.new.sink ≡ None }
+        ensures again { IsSome self.old.sink
             → (lines : List ℕ) (over : List (List ℕ)) (taken : List ℕ)
             → IsUnderWay lines over taken cursor.old
             → IsUnderWay lines (over ++ taken ∷ []) [] cursor.new }
@@ -105,14 +110,17 @@ impl<W: Write + Drop> FileConnection<W> {
     ) -> Turn<W>
         // While it is kept it gets the file's lines, and nothing else.
         ensures kept { IfSome (F.text file.now) (λ held.
-            IfSome self.old (λ had. IfSome self.new (λ has.
+            IfSome self.old.sink (λ had. IfSome self.new.sink (λ has.
             GoesOn (take end held) cursor.old cursor.new (W.contents had) (W.contents has)))) }
         // It is given out with all lines, from where the connections before it left them,
         ensures lines { IfSome (F.text file.now) (λ held.
-            IfSome self.old (λ had. IfOver result (λ sink.
+            IfSome self.old.sink (λ had. IfOver result (λ sink.
             Ends (take end held) cursor.old (W.contents had) (W.contents sink)))) }
         // and never before the cursor is there.
         ensures over { IfOver result (λ _. end ≤ cursor.new.next) }
+        // One that takes no more gets nothing.
+        ensures blocked { self.old.blocked ≡ true → self.new ≡ self.old }
+        ensures none { self.old.sink ≡ None → (self.new ≡ self.old) × IfOver result (λ _. ⊥) }
     {
         laws::nothing_is_lost();
         if self.is_blocked {
