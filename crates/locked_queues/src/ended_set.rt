@@ -1,5 +1,5 @@
 //! A set of queues that has ended.
-ghost use Rattle.std.specs.Prelude.{◌≡◌, ◌*◌, ◌≤◌, [], ◌++◌, map, IfOk, IfErr};
+ghost use Rattle.std.specs.Prelude.{◌≡◌, ◌*◌, ◌≤◌, [], ◌++◌, map, IfOk, IfErr, IsErrOf};
 ghost use Rattle.std.specs.Option.{option_to_list};
 ghost use Rattle.std.specs.Vec.{vec_len, vec_capacity};
 ghost use Rattle.dest_queue.specs.Step.{recorded_of};
@@ -99,6 +99,8 @@ impl EndedSet {
             doors.now outlets.now settled.order.items) }
         ensures of_set { IfOk result (λ settled.
             AreOfSet self.name (vec_len self.counts) self.receivers self.senders doors.now outlets.now) }
+        ensures strangers { IsErrOf result SettleFault.Strangers
+            → ¬ AreOfSet self.name (vec_len self.counts) self.receivers self.senders doors.now outlets.now }
     {
         let EndedSet {
             name,
