@@ -54,14 +54,19 @@ impl Rest {
         }
     }
 
-    /// Adds what a later run left in its queue, whose writer had no connection, and so nothing in hand: as many datapoints as
-    /// the room of the first queue has places for, and at most `most` that are queued in all. The others are dropped; returns
-    /// how many these are. It takes no memory.
+    /// Adds what a later run left in its queue, whose writer had no connection, and so nothing in hand. If nothing is queued yet,
+    /// the later queue takes that place, with its room. Otherwise as many datapoints are added as the room of the first queue has
+    /// places for, and at most `most` are queued in all; the others are dropped. Returns how many these are. It takes no memory.
     pub fn add(&mut self, points: QueuedPoints, most: usize) -> usize
         ensures writer { self.new.writer ≡ self.old.writer }
         ensures added { (kept : ℕ) × (self.new.queued ≡ self.old.queued ++ take kept points)
             × (length points ≡ min kept (length points) + result) }
+        ensures all { self.old.queued ≡ [] → (self.new.queued ≡ points) × (result ≡ 0) }
     {
+        if self.queued.is_empty() {
+            self.queued = points;
+            return 0;
+        }
         self.queued.add(points, most)
     }
 

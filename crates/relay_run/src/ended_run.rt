@@ -1,6 +1,6 @@
 //! What a run leaves that another one follows.
 
-ghost use Rattle.std.specs.Prelude.{◌≡◌, ℕ, ◌≤◌, ◌+◌, ◌++◌, length, min, take, IfOk};
+ghost use Rattle.std.specs.Prelude.{◌≡◌, ℕ, ◌≤◌, ◌+◌, [], ◌++◌, length, min, take, IfOk, IfSome};
 ghost use Rattle.line_text.specs.Print.{printed_lines};
 ghost use Rattle.handover.specs.Rest.{left_text};
 ghost use Rattle.relay_run.specs.LeftDest.{text_left};
@@ -166,6 +166,10 @@ fn add_points(alloc: Global, left: &mut LeftDest, points: QueuedPoints, shape: &
     ensures text { (kept : ℕ) × (text_left left.new.rest
         ≡ text_left left.old.rest ++ printed_lines (take kept points))
         × (length points ≡ min kept (length points) + result) }
+    // With nothing queued before, all of them go on.
+    ensures all { IfSome left.old.rest (λ rest. rest.queued ≡ []
+        → (text_left left.new.rest ≡ text_left left.old.rest ++ printed_lines points)
+        × (result ≡ 0)) }
     ensures files { left.new.files ≡ left.old.files }
     ensures socket { left.new.socket ≡ left.old.socket }
 {
