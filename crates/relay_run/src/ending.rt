@@ -5,7 +5,7 @@
 
 ghost use Rattle.std.specs.Prelude.{◌≡◌, ◌⊎◌, Err, if◌then◌else◌};
 
-use crate::first_thread::FirstThread;
+use crate::first_work::FirstWork;
 use crate::thread_end::ThreadEnd;
 use crate::threads::StartedThreads;
 use finished_run::FedLog;
@@ -32,18 +32,16 @@ pub(crate) fn end_threads<
     R: Threads + Wait + Clock,
     O: Send + Drop,
     S: Send + Drop,
-    M: FirstThread<R, O, S>,
+    A: FirstWork<R, O, S>,
 >(
     rt: &R,
     alloc: Global,
     signals: &Signals,
     started: StartedThreads<O, S>,
     served: Result<(), RelayFault>,
-    first: &mut M,
+    work: &mut A,
 ) -> ThreadEnds
-    ensures same { M.which first.new ≡ M.which first.old }
-    ensures nothing { M.written first.new ≡ M.written first.old }
-    ensures served { (result.served ≡ served) ⊎ (result.served ≡ Err RelayFault.NoMemory) }
+    ensures { (result.served ≡ served) ⊎ (result.served ≡ Err RelayFault.NoMemory) }
 {
     let StartedThreads {
         receivers,
@@ -53,20 +51,26 @@ pub(crate) fn end_threads<
         servers,
         ..
     } = started;
-    let is_last = served.is_ok() && !first.is_followed();
+    let is_last = served.is_ok() && !work.is_followed();
     // What a run inherited that could not begin is not lost either.
-    let is_handing = first.is_followed() || served.is_err() && first.follows();
+    let is_handing = work.is_followed() || served.is_err() && work.follows();
     let server = end_server(rt, signals, servers, is_handing);
-    close_if(rt, alloc, is_last, first);
+    if is_last {
+        work.close_receivers(rt, alloc);
+    }
     if is_handing {
         // No port is shut: its receiver ends with the others.
-        first.stop_datagrams();
+        work.stop_datagrams();
     }
-    let (receivers, are_kept) = end_receivers(rt, alloc, signals, receivers, first);
+    let (receivers, are_kept) = end_receivers(rt, alloc, signals, receivers, work);
     let served = served_if(are_kept, served);
-    send_rest_if(rt, alloc, is_last && served.is_ok(), first);
+    if is_last && served.is_ok() {
+        // The senders send what is left, and what is left then is written to files.
+        work.drain(rt, alloc);
+        work.spool(rt, alloc);
+    }
     signals.stop_senders();
-    first.wake_senders();
+    work.wake_senders();
     let (senders, are_kept) = join_all(rt, alloc, senders);
     let served = served_if(are_kept, served);
     let _ends = join_all(rt, alloc, parting);
@@ -76,7 +80,7 @@ pub(crate) fn end_threads<
         ServerEnd::Ended(server) => server,
         ServerEnd::Runs(servers) => join_last(rt, servers),
     };
-    first.keep_watchers(log, server);
+    work.keep_watchers(log, server);
     ThreadEnds {
         receivers,
         senders,
@@ -118,56 +122,24 @@ fn join_last<R: Threads + Wait, T: Send + Drop>(rt: &R, children: Vec<JoinHandle
 
 /// Ends the receivers: those of connections, and once they have ended the one of datagrams. If there is one, it is the last.
 /// Returns how they ended, in order, and whether there was memory to keep all of that.
-fn end_receivers<R: Threads + Wait + Clock, O, S, M: FirstThread<R, O, S>>(
+fn end_receivers<R: Threads + Wait + Clock, O, S, A: FirstWork<R, O, S>>(
     rt: &R,
     alloc: Global,
     signals: &Signals,
     receivers: Vec<JoinHandle<ThreadEnd<DoorRecord, FedLog>>>,
-    first: &M,
+    work: &A,
 ) -> (Vec<ThreadEnd<DoorRecord, FedLog>>, bool) {
     let mut receivers = receivers;
     let last = receivers.pop();
     signals.stop_receivers();
-    first.wake_receivers();
+    work.wake_receivers();
     let (mut ends, mut are_kept) = join_all(rt, alloc, receivers);
-    first.stop_datagrams();
-    first.wake_receivers();
+    work.stop_datagrams();
+    work.wake_receivers();
     if let Some(last) = last {
         are_kept = ends.push(last.join(rt)).is_ok() && are_kept;
     }
     (ends, are_kept)
-}
-
-/// Closes the receivers if the run went on until it was stopped, and none follows.
-fn close_if<R: Wait + Clock, O, S, M: FirstThread<R, O, S>>(
-    rt: &R,
-    alloc: Global,
-    is_served: bool,
-    first: &mut M,
-)
-    ensures same { M.which first.new ≡ M.which first.old }
-    ensures nothing { M.written first.new ≡ M.written first.old }
-{
-    if is_served {
-        first.close_receivers(rt, alloc);
-    }
-}
-
-/// If the run went on until it was stopped, and none follows, lets the senders send what is left, and write to files what is
-/// left then.
-fn send_rest_if<R: Wait + Clock, O, S, M: FirstThread<R, O, S>>(
-    rt: &R,
-    alloc: Global,
-    is_served: bool,
-    first: &mut M,
-)
-    ensures same { M.which first.new ≡ M.which first.old }
-    ensures nothing { M.written first.new ≡ M.written first.old }
-{
-    if is_served {
-        first.drain(rt, alloc);
-        first.spool(rt, alloc);
-    }
 }
 
 /// How the first thread served, if there was memory to keep what the others left; otherwise out of memory.

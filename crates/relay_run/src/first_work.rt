@@ -1,16 +1,17 @@
-//! What the first thread does beside saying that the relay is ready, and the first thread that does both.
+//! What the first thread does while the others run.
 
-ghost use Rattle.std.specs.Prelude.{◌≡◌};
-ghost use Rattle.relay_run.specs.Running.{opening};
+ghost use Rattle.std.specs.Prelude.{◌≡◌, IfErr, OnOk};
+ghost use Rattle.std.specs.Io.KnownBytes.{Appends};
+ghost use Rattle.relay_files.specs.Output.{GrowsByPart};
+ghost use Rattle.relay_run.specs.Running.{Served, opening};
 
-use crate::first_thread::FirstThread;
 use relay_files::{RelayFault, write_out};
 use std::alloc::Global;
 use std::io::Write;
 use std::rt::Clock;
 use std::sync::Wait;
 
-/// What the first thread does beside saying that the relay is ready. It does not reach the output.
+/// What the first thread does while the others run, beside saying that the relay is ready. It does not reach the output.
 pub(crate) trait FirstWork<R: Wait + Clock, O, S> {
     ghost use Rattle.std.specs.Prelude.{Bool};
 
@@ -24,94 +25,65 @@ pub(crate) trait FirstWork<R: Wait + Clock, O, S> {
     /// Does what is left to do for the run before, and answers commands until one is `stop`, or until another run is to follow.
     fn serve(&mut self, rt: &R, alloc: Global);
 
-    /// See [`FirstThread::is_followed`].
+    /// Whether another run follows this one, now that it has served.
     fn is_followed(&self) -> bool;
 
-    /// See [`FirstThread::follows`].
+    /// Whether a run was before this one.
     fn follows(&self) -> bool;
 
-    /// See [`FirstThread::close_receivers`].
+    /// Closes the receivers before they are stopped, so that they read what was sent to them.
     fn close_receivers(&mut self, rt: &R, alloc: Global);
 
-    /// See [`FirstThread::stop_datagrams`].
+    /// Tells the receiver of datagrams to stop, if there is one.
     fn stop_datagrams(&self);
 
-    /// See [`FirstThread::wake_receivers`].
+    /// Ends the waits of the receivers, so that they see their stop flags.
     fn wake_receivers(&self);
 
-    /// See [`FirstThread::drain`].
+    /// Waits, once the receivers have ended, for as long as the senders are to go on, and notes for whom it does not wait.
     fn drain(&mut self, rt: &R, alloc: Global);
 
-    /// See [`FirstThread::spool`].
+    /// Has the senders write to files what they have not sent, if files keep that, and waits until they have.
     fn spool(&mut self, rt: &R, alloc: Global);
 
-    /// See [`FirstThread::wake_senders`].
+    /// Ends the waits of the senders, so that they see theirs.
     fn wake_senders(&self);
 
-    /// See [`FirstThread::keep_watchers`].
+    /// Keeps what the threads left that watched: that of the log, and that of the status server.
     fn keep_watchers(&mut self, log: Option<O>, server: Option<S>);
 }
 
-/// A first thread: all that it does beside, and its output. It has only references, so that what was written is known at its
-/// end.
-#[derive(Drop)]
-pub(crate) struct WithOutput<'p, W, A> {
-    pub(crate) work: &'p mut A,
-    pub(crate) output: &'p mut W,
+/// Says that the relay is ready, if no run was before, and serves. If not all threads have begun, it is out of memory, and
+/// nothing is written.
+pub(crate) fn serve_if<R: Wait + Clock, O, S, A: FirstWork<R, O, S>, W: Write>(
+    rt: &R,
+    alloc: Global,
+    are_begun: bool,
+    work: &mut A,
+    output: &mut W,
+) -> Result<(), RelayFault>
+    ensures { Served (opening (A.is_first work.old))
+        (W.contents output.old) (W.contents output.new) result }
+{
+    if !are_begun {
+        return Err(RelayFault::NoMemory);
+    }
+    let said = say_opening(work.is_first(), output);
+    if said.is_ok() {
+        work.serve(rt, alloc);
+    }
+    said
 }
 
-impl<R: Wait + Clock, O, S, W: Write, A: FirstWork<R, O, S>> FirstThread<R, O, S>
-    for WithOutput<'_, W, A> {
-    ghost written = { λ first. W.contents first.output.now };
-
-    ghost which = { λ first. first.output.ghost_name };
-
-    ghost opening = { λ first. opening (A.is_first first.work.now) };
-
-    fn serve(&mut self, rt: &R, alloc: Global) -> Result<(), RelayFault> {
-        if self.work.is_first() {
-            write_out(self.output, b"ready\n")?;
-        }
-        self.work.serve(rt, alloc);
-        Ok(())
+/// Writes that the relay is ready, if no run was before.
+fn say_opening<W: Write>(is_first: bool, output: &mut W) -> Result<(), RelayFault>
+    ensures ok { OnOk result
+        (Appends (W.contents output.old) (W.contents output.new) (opening is_first)) }
+    ensures err { IfErr result (λ fault. (fault ≡ RelayFault.Output)
+        × GrowsByPart (W.contents output.old) (W.contents output.new) (opening is_first)) }
+{
+    if is_first {
+        write_out(output, b"ready\n")?;
     }
-
-    fn is_followed(&self) -> bool {
-        self.work.is_followed()
-    }
-
-    fn follows(&self) -> bool {
-        self.work.follows()
-    }
-
-    fn close_receivers(&mut self, rt: &R, alloc: Global) {
-        self.work.close_receivers(rt, alloc);
-    }
-
-    fn stop_datagrams(&self) {
-        self.work.stop_datagrams();
-    }
-
-    fn wake_receivers(&self) {
-        self.work.wake_receivers();
-    }
-
-    fn drain(&mut self, rt: &R, alloc: Global) {
-        self.work.drain(rt, alloc);
-    }
-
-    fn spool(&mut self, rt: &R, alloc: Global) {
-        self.work.spool(rt, alloc);
-    }
-
-    fn wake_senders(&self) {
-        self.work.wake_senders();
-    }
-
-    fn keep_watchers(&mut self, log: Option<O>, server: Option<S>)
-        ensures same { self.new.output.ghost_name ≡ self.old.output.ghost_name }
-        ensures nothing { W.contents self.new.output.now ≡ W.contents self.old.output.now }
-    {
-        self.work.keep_watchers(log, server);
-    }
+    Ok(())
 }

@@ -19,7 +19,6 @@ mod dest_slots;
 mod end_orders;
 mod ended_run;
 mod ending;
-mod first_thread;
 mod first_work;
 mod gone_dests;
 mod inherited;

@@ -5,8 +5,7 @@ ghost use Rattle.relay_run.specs.Running.{Served, opening};
 ghost use denote.Param.Send.{IsSync, IsSend};
 
 use crate::ending::{ThreadEnds, end_threads};
-use crate::first_thread::{FirstThread, serve_if};
-use crate::first_work::{FirstWork, WithOutput};
+use crate::first_work::{FirstWork, serve_if};
 use crate::thread_end::ThreadEnd;
 use finished_run::FedLog;
 use locked_queues::{DoorRecord, OutletRecord};
@@ -57,6 +56,14 @@ impl<O, S> StartedThreads<O, S> {
     }
 }
 
+/// What the first thread does while the others run, and its output. These are references alone, so that it is known what was
+/// written once they are taken apart.
+#[derive(Drop)]
+struct WithOutput<'a, 'p, A, W> {
+    work: &'a mut A,
+    output: &'p mut W,
+}
+
 /// Starts a thread for each job, and has the first one do its work, with this output, until the run has ended.
 pub(crate) fn run_all_threads<
     R: Threads + Wait + Clock + Sync,
@@ -92,6 +99,8 @@ pub(crate) fn run_all_threads<
 
 /// Starts a thread for each job, serves until the relay is stopped, and ends the threads.
 fn run_threads<
+    'a,
+    'p,
     R: Threads + Wait + Clock + Sync,
     J: ThreadWork<R, ThreadEnd<DoorRecord, FedLog>> + Send + Drop,
     K: ThreadWork<R, ThreadEnd<OutletRecord, Vec<WriteLog>>> + Send + Drop,
@@ -100,24 +109,33 @@ fn run_threads<
     V: ThreadWork<R, S> + Send + Drop,
     O: Send + Drop,
     S: Send + Drop,
-    M: FirstThread<R, O, S> + Drop,
->(rt: &R, alloc: Global, jobs: Jobs<J, K, G, L, V>, signals: &Signals, first: M) -> (ThreadEnds, M)
-    ensures same { M.which result.1 ≡ M.which first }
-    ensures served { Served (M.opening first) (M.written first) (M.written result.1) result.0.served }
+    A: FirstWork<R, O, S>,
+    W: Write,
+>(
+    rt: &R,
+    alloc: Global,
+    jobs: Jobs<J, K, G, L, V>,
+    signals: &Signals,
+    first: WithOutput<'a, 'p, A, W>,
+) -> (ThreadEnds, WithOutput<'a, 'p, A, W>)
+    ensures same { result.1.output.ghost_name ≡ first.entry.output.ghost_name }
+    ensures served { Served (opening (A.is_first first.entry.work.now))
+        (W.contents first.entry.output.now) (W.contents result.1.output.now) result.0.served }
 {
     let link = SignalLink { signals };
     thread::scope(
         thread::scope_env(),
         rt,
-        move |scope| -> (ThreadEnds, M)
+        move |scope| -> (ThreadEnds, WithOutput<'_, '_, A, W>)
             requires { IsSync R.row × IsSend J.row × IsSend K.row × IsSend G.row × IsSend L.row
                 × IsSend V.row × IsSend O.row × IsSend S.row }
-            ensures same { M.which result.1 ≡ M.which first }
-            ensures served { Served (M.opening first) (M.written first) (M.written result.1) result.0.served }
+            ensures same { result.1.output.ghost_name ≡ first.entry.output.ghost_name }
+            ensures served { Served (opening (A.is_first first.entry.work.now))
+                (W.contents first.entry.output.now) (W.contents result.1.output.now) result.0.served }
         {
-            let mut first = first;
-            let ends = run_in_scope(scope, rt, alloc, jobs, link, &mut first);
-            (ends, first)
+            let WithOutput { work, output } = first;
+            let ends = run_in_scope(scope, rt, alloc, jobs, link, &mut *work, &mut *output);
+            (ends, WithOutput { work, output })
         },
     )
 }
@@ -134,22 +152,24 @@ fn run_in_scope<
     V: ThreadWork<R, S> + Send + Drop + 's,
     O: Send + Drop + 's,
     S: Send + Drop + 's,
-    M: FirstThread<R, O, S>,
+    A: FirstWork<R, O, S>,
+    W: Write,
 >(
     scope: &Scope<'s, E>,
     rt: &'s R,
     alloc: Global,
     jobs: Jobs<J, K, G, L, V>,
     link: SignalLink<'s>,
-    first: &mut M,
+    work: &mut A,
+    output: &mut W,
 ) -> ThreadEnds
-    ensures same { M.which first.new ≡ M.which first.old }
-    ensures served { Served (M.opening first.old) (M.written first.old) (M.written first.new) result.served }
+    ensures { Served (opening (A.is_first work.old))
+        (W.contents output.old) (W.contents output.new) result.served }
 {
     let started = start_all(scope, rt, alloc, jobs, link);
     let are_begun = started.wait_for_begun(rt, link.signals);
-    let served = serve_if(rt, alloc, are_begun, first);
-    end_threads(rt, alloc, link.signals, started, served, first)
+    let served = serve_if(rt, alloc, are_begun, work, output);
+    end_threads(rt, alloc, link.signals, started, served, work)
 }
 
 /// Starts a thread for each job.

@@ -2,6 +2,6 @@ use Rattle.relay_run.proofs.RunEndings.{kept-both}
 use Rattle.relay_run.proofs.ending.end_threads.Goals as goal
 
 -- what receivers and senders left was kept, or memory ran out
-pub returns-clause-served : goal.returns-clause-served
-returns-clause-served g c =
+pub returns : goal.returns
+returns g c =
     rw (c.served_if-served-2.ensures, c.served_if-served.ensures) (kept-both c.args.served c.end_receivers-receivers.result.1 c.join_all-senders.result.1)

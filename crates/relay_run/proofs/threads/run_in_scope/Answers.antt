@@ -2,6 +2,5 @@ use Rattle.relay_run.proofs.RunEndings.{Served-kept}
 use Rattle.relay_run.proofs.threads.run_in_scope.Goals as goal
 
 -- the end that is given is that of the serving, or memory ran out after it
-pub returns-clause-served : goal.returns-clause-served
-returns-clause-served g c =
-    rw (c.end_threads.ensures.nothing) (Served-kept _ _ _ _ _ c.serve_if-served.ensures.served c.end_threads.ensures.served)
+pub returns : goal.returns
+returns g c = Served-kept _ _ _ _ _ c.serve_if-served.ensures c.end_threads.ensures
