@@ -104,6 +104,7 @@ bench: $(of_program)
 	@python3 bench/status.py $(driven)
 	@python3 bench/receivers.py $(driven)
 	@python3 bench/restarts.py $(driven)
+	@python3 bench/reloads.py $(driven)
 
 install: bin/relayd
 	install -D -m 755 bin/relayd $(DESTDIR)$(PREFIX)/bin/relayd

@@ -22,7 +22,7 @@ from relaying import STORES, Plan, Scene, build, line_file, measure
 from shared import demand, missing, options
 
 RECEIVERS, SENDERS = (1, 2, 3), (1, 2)
-BAR = 1.4  # times what one receiver and one sender make
+BAR = 1.6  # times what one receiver and one sender make
 
 
 def relay_with(receivers, count):

@@ -14,16 +14,13 @@ again, once a second. Printed are, as medians of all rounds,
 - the resident memory before the first reload and the most of all, in MB.
 """
 
-import contextlib
-import os
 import signal
 import socket
 import statistics
 import time
 
-from peers import ADMIN_PORT, HOST, LINE_PORT, CarbonCRelay, Plan, Relayd
-from restarts import HIGHER, STORE, ServiceRelayd, began_store, datagram_port, show
-from shared import DATA, demand, options
+from peers import ADMIN_PORT, HOST, LINE_PORT, CarbonCRelay, Plan
+from restarts import STORE, ServiceRelayd, began_store, datagram_port, given_rounds, show
 
 from fixtures.restarting import CHUNK, Came, Load  # noqa: E402
 
@@ -92,19 +89,12 @@ def reloads(kind):
 
 def main():
     """Measures all."""
-    parser = options(__doc__.split("\n", 1)[0], "--relayd", "relayd")
-    parser.set_defaults(rounds=3)
-    given = parser.parse_args()
-    demand(given.relayd)
-    Relayd.program = given.relayd
-    os.makedirs(DATA, exist_ok=True)
-    with contextlib.suppress(OSError):
-        os.nice(HIGHER)
+    rounds = given_rounds(__doc__.split("\n", 1)[0])
     kinds = [kind for kind in (Reloaded, HungUp) if not kind.missing()]
     show("a reload at 20,000 a second", ("{:.2f} ms between two pieces around a reload,", "{:.2f} at most;",
                                          "{:.2f} between two reloads,", "{:.2f} at most;", "{:,.0f} lost,",
                                          "{:,.0f} datagrams,", "{:,.0f} twice;", "{:,.0f} MB before,", "{:,.0f} at most"),
-         reloads, kinds, given.rounds)
+         reloads, kinds, rounds)
 
 
 if __name__ == "__main__":

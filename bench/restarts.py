@@ -196,9 +196,9 @@ def show(title, columns, measured, kinds, rounds):
         print(f"  {name:25} " + "  ".join(f"{text.format(value)}" for text, value in zip(columns, row)), flush=True)
 
 
-def main():
-    """Measures all."""
-    parser = options(__doc__.split("\n", 1)[0], "--relayd", "relayd")
+def given_rounds(description):
+    """How many rounds are run, once the program to measure is known and all here has its priority."""
+    parser = options(description, "--relayd", "relayd")
     parser.set_defaults(rounds=3)
     given = parser.parse_args()
     demand(given.relayd)
@@ -206,6 +206,12 @@ def main():
     os.makedirs(DATA, exist_ok=True)
     with contextlib.suppress(OSError):
         os.nice(HIGHER)
+    return given.rounds
+
+
+def main():
+    """Measures all."""
+    rounds = given_rounds(__doc__.split("\n", 1)[0])
     kinds = []
     for kind in (ServiceRelayd, CarbonCRelay, CarbonRelay):
         if reason := kind.missing():
@@ -213,11 +219,11 @@ def main():
         else:
             kinds.append(kind)
     show("a restart under load", ("{:,.0f} lost of who watches,", "{:,.0f} of the blind,", "{:,.0f} datagrams;",
-                                  "refused for {:.3f} s,", "stopped in {:.3f} s"), restarts, kinds, given.rounds)
+                                  "refused for {:.3f} s,", "stopped in {:.3f} s"), restarts, kinds, rounds)
     show("from a producer to the store at 20,000 a second", ("{:.2f} ms in the middle,", "{:.2f} at the 99th percentile"),
-         distance, [Direct, *kinds], given.rounds)
+         distance, [Direct, *kinds], rounds)
     show("a store that is away for 10 to 11 s", ("{:,.0f} lost;", "the first after {:.2f} s,", "all after {:.2f} s;",
-                                                   "{:,.0f} out of order"), comes_back, kinds, given.rounds)
+                                                   "{:,.0f} out of order"), comes_back, kinds, rounds)
 
 
 if __name__ == "__main__":
