@@ -1,5 +1,5 @@
 -- What a configuration does with a datapoint: rewriting, and then routing.
-use Rattle.std.specs.Prelude.{ℕ, Bool, true, List, [], map, length, Option, Some, None, Result, Ok, Err, if◌then◌else◌}
+use Rattle.std.specs.Prelude.{◌≡◌, ℕ, Bool, true, List, [], map, length, Option, Some, None, Result, Ok, Err, if◌then◌else◌}
 use Rattle.line_text.specs.Datapoint.{Datapoint}
 use Rattle.line_text.specs.Name.{is_name}
 use Rattle.relay_base.specs.DestIds.{are_below}
@@ -63,6 +63,12 @@ sent_along routing (Some point) = record { point = Some point; dests = route_of 
 -- what a plan sends for a datapoint: it is rewritten, and then routed
 abbrev pub sent_by : Plan → Datapoint → Sent
 sent_by plan point = sent_along plan.routing (point_after plan.rewrite point)
+
+-- that was sent, and to destinations that there are
+abbrev pub IsSentBy : Plan → Datapoint → Option Datapoint → List DestId → Type 0
+IsSentBy plan point sent dests =
+    (record { point = sent; dests = dests } ≡ sent_by plan point)
+    × (are_below plan.destinations dests ≡ true)
 
 -- ---- the plan of a configuration
 

@@ -6,7 +6,7 @@ ghost use Rattle.std.specs.List.{All};
 ghost use Rattle.relay_base.specs.Memory.{Gives};
 ghost use Rattle.relay_base.specs.DestIds.{are_below};
 ghost use Rattle.rewrite_rules.specs.Rule.{RewriteRule};
-ghost use Rattle.router.specs.Plan.{sent_by, plan_of, are_read_for, Routing as RoutingValue};
+ghost use Rattle.router.specs.Plan.{IsSentBy, sent_by, plan_of, are_read_for, Routing as RoutingValue};
 ghost use Rattle.router.specs.Route.{IsRouteOf, IsSameRoute};
 
 use crate::fault::PlanFault;
@@ -154,9 +154,7 @@ impl Plan {
         dests: &mut Vec<DestId>,
     ) -> Result<Option<Arc<Point>>, NoMemory>
         ensures sent { IfOk result (λ sent.
-            record { point = option_map (λ p. arc_value p) sent; dests = dests.new.items }
-            ≡ sent_by self.old point) }
-        ensures below { OnOk result (are_below self.old.destinations dests.new.items ≡ true) }
+            IsSentBy self.old point (option_map (λ p. arc_value p) sent) dests.new.items) }
         ensures same { self.new ≡ self.old }
     {
         // No effect at run time: the proof reads the law.
@@ -186,9 +184,7 @@ impl Plan {
     ) -> Result<Option<Arc<Point>>, NoMemory>
         requires { point.name ≡ key }
         ensures sent { IfOk result (λ sent.
-            record { point = option_map (λ p. arc_value p) sent; dests = dests.new.items }
-            ≡ sent_by self.old point) }
-        ensures below { OnOk result (are_below self.old.destinations dests.new.items ≡ true) }
+            IsSentBy self.old point (option_map (λ p. arc_value p) sent) dests.new.items) }
         ensures same { self.new ≡ self.old }
     {
         // No effect at run time: the proof reads the law.

@@ -125,32 +125,16 @@ impl Route {
                 let sent = with_shared_name(point, name)?;
                 Ok(Some(Arc::new(alloc, sent)?))
             }
-            Route::Other(other) => other.send(alloc, name, point, dests),
+            Route::Other(other) => {
+                other.dests.copy_into(dests)?;
+                let sent = match &other.sent {
+                    SentName::AsReceived => with_shared_name(point, name)?,
+                    SentName::Renamed(name) => with_name(point, name)?,
+                    SentName::Dropped => return Ok(None),
+                };
+                Ok(Some(Arc::new(alloc, sent)?))
+            }
         }
-    }
-}
-
-impl OtherRoute {
-    /// [`Route::send`] for this route.
-    fn send(
-        &self,
-        alloc: Global,
-        name: &Arc<Name>,
-        point: Point,
-        dests: &mut Vec<DestId>,
-    ) -> Result<Option<Arc<Point>>, NoMemory>
-        requires { point.name ≡ arc_value name.now }
-        ensures point { IfOk result (λ sent. option_map (λ p. arc_value p) sent
-            ≡ under_name point (sent_name (arc_value name.now) self.now.sent)) }
-        ensures dests { OnOk result (dests.new.items ≡ dests_of self.now.dests) }
-    {
-        self.dests.copy_into(dests)?;
-        let sent = match &self.sent {
-            SentName::AsReceived => with_shared_name(point, name)?,
-            SentName::Renamed(name) => with_name(point, name)?,
-            SentName::Dropped => return Ok(None),
-        };
-        Ok(Some(Arc::new(alloc, sent)?))
     }
 }
 

@@ -19,13 +19,6 @@ returns-then-promote-clause-sent c =
     let dests = right.dests in
     search rules
 
-pub returns-then-promote-clause-below : goal.returns-then-promote-clause-below
-returns-then-promote-clause-below c =
-    let among = right_promoted c.self.inside.rewrite (routing_seen c.self.inside.routing) c.self.inside.recent c.promote.new.self c.promote.ensures.kept c.self.invariant.2 in
-    let right = right_first c.self.inside.rewrite (routing_seen c.self.inside.routing) c.promote.new.self (c.in-Some.key.now, c.in-Some.route.now) (sym c.in-Some.ensures) among in
-    let dests = right.dests in
-    search rules
-
 pub invariant_of-self-else-promote : goal.invariant_of-self-else-promote
 invariant_of-self-else-promote c =
     (c.self.invariant.0, c.self.invariant.1, right_promoted c.self.inside.rewrite (routing_seen c.self.inside.routing) c.self.inside.recent c.promote.new.self c.promote.ensures.kept c.self.invariant.2)
