@@ -62,6 +62,8 @@ impl QueuedPoints {
     pub fn add(&mut self, later: QueuedPoints, most: usize) -> usize
         ensures added { (kept : ℕ) × (self.new ≡ self.old ++ take kept later)
             × (length later ≡ min kept (length later) + result) }
+        // With none before, all of them go on.
+        ensures all { self.old ≡ [] → (self.new ≡ later) × (result ≡ 0) }
     {
         let QueuedPoints { mut points } = later;
         if self.points.is_empty() {
