@@ -1,9 +1,8 @@
 //! The steps that led to what a queue holds now.
 ghost use Rattle.std.specs.Prelude.{◌≡◌, ◌*◌, ◌-◌, ◌^◌, ◌<◌, ◌≤◌, ◌==◌, if◌then◌else◌, [], ◌∷◌, ◌++◌, length, IfOk};
 ghost use Rattle.std.specs.Vec.{vec_len, vec_capacity};
-ghost use Rattle.dest_queue.specs.Balance.{IsBalanced};
 ghost use Rattle.dest_queue.specs.Queue.{empty_queue, most_steps};
-ghost use Rattle.dest_queue.specs.Stored.{queue_of, steps_until_now, history_of, HasRoom, LeadsTo};
+ghost use Rattle.dest_queue.specs.Stored.{queue_of, steps_until_now, history_of, HasRoom, IsPastOf, LeadsTo};
 
 use crate::base::Base;
 use crate::current::CurrentQueue;
@@ -58,10 +57,7 @@ impl PastQueue {
     /// size, becomes the base, and the history is emptied.
     #[inline(always)]
     pub(crate) fn make_room(&mut self, size: usize, current: &CurrentQueue)
-        requires room { HasRoom size self.old }
-        requires leads { LeadsTo size self.old current.now }
-        requires balanced { IsBalanced size (queue_of (steps_until_now self.old) current.now) }
-        requires length { vec_len self.old.history ≤ most_steps }
+        requires past { IsPastOf size self.old current.now }
         requires seals { self.old.base.queue.recorded < most_steps * (2 ^ 64 - 1) }
         ensures room { HasRoom size self.new }
         ensures leads { LeadsTo size self.new current.now }

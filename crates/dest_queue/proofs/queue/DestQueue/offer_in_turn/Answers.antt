@@ -13,38 +13,14 @@ use Rattle.dest_queue.proofs.Recording.{room-recorded, recorded-within, recorded
 use Rattle.dest_queue.proofs.Replaying.{replays_more}
 use Rattle.dest_queue.proofs.queue.DestQueue.offer_in_turn.Goals as goal
 
-pub make_room-requires-clause-room : goal.make_room-requires-clause-room
-make_room-requires-clause-room c = c.self.invariant.past_room
+pub make_room-requires-clause-past : goal.make_room-requires-clause-past
+make_room-requires-clause-past c = c.self.invariant.past
 
-pub make_room-requires-clause-leads : goal.make_room-requires-clause-leads
-make_room-requires-clause-leads c = c.self.invariant.past
+pub returns-in_err-recorded-clause-made : goal.returns-in_err-recorded-clause-made
+returns-in_err-recorded-clause-made c = IfOk-from_err _ _ c.from_residual.ensures.0
 
-pub make_room-requires-clause-balanced : goal.make_room-requires-clause-balanced
-make_room-requires-clause-balanced c = c.self.invariant.balanced
-
-pub returns-in_err-recorded-clause-answer : goal.returns-in_err-recorded-clause-answer
-returns-in_err-recorded-clause-answer c = IfOk-from_err _ _ c.from_residual.ensures.0
-
-pub returns-in_err-recorded-clause-step : goal.returns-in_err-recorded-clause-step
-returns-in_err-recorded-clause-step c = IfOk-from_err _ _ c.from_residual.ensures.0
-
-pub returns-in_err-recorded-clause-base : goal.returns-in_err-recorded-clause-base
-returns-in_err-recorded-clause-base c = IfOk-from_err _ _ c.from_residual.ensures.0
-
-pub returns-in_err-recorded-clause-history : goal.returns-in_err-recorded-clause-history
-returns-in_err-recorded-clause-history c = IfOk-from_err _ _ c.from_residual.ensures.0
-
-pub returns-in_err-share-clause-answer : goal.returns-in_err-share-clause-answer
-returns-in_err-share-clause-answer c = IfOk-from_err _ _ c.from_residual-in_err-share.ensures.0
-
-pub returns-in_err-share-clause-step : goal.returns-in_err-share-clause-step
-returns-in_err-share-clause-step c = IfOk-from_err _ _ c.from_residual-in_err-share.ensures.0
-
-pub returns-in_err-share-clause-base : goal.returns-in_err-share-clause-base
-returns-in_err-share-clause-base c = IfOk-from_err _ _ c.from_residual-in_err-share.ensures.0
-
-pub returns-in_err-share-clause-history : goal.returns-in_err-share-clause-history
-returns-in_err-share-clause-history c = IfOk-from_err _ _ c.from_residual-in_err-share.ensures.0
+pub returns-in_err-share-clause-made : goal.returns-in_err-share-clause-made
+returns-in_err-share-clause-made c = IfOk-from_err _ _ c.from_residual-in_err-share.ensures.0
 
 -- the queue machine's step is made
 stepped : (c : goal.After-record)
@@ -57,21 +33,28 @@ invariant_of-self c =
     let leads = c.make_room.ensures.leads in
     let made = c.make_room.new.self in
     let past = c.record.new.self in
-    let base = c.record.ensures.base in
-    let history = c.record.ensures.history in
     record {
       room = subst (λ (n : ℕ). c.self.inside.size ≤ n) (sym c.queue_or_drop-kept.ensures.room) c.self.invariant.room;
-      past_room = room-recorded made past _ base history c.self.inside.size c.record.ensures.capacity c.make_room.ensures.room;
       past = record {
-        readers = grind (arith, common_steps);
-        unsealed = λ none. let same : length c.count_offer.new.self.next.items ≡ length c.self.inside.current.tally.next.items = grind (arith, common_steps) in grind (arith, common_steps);
-        replays = rw (c.record.ensures.history, c.record.ensures.base, map-append) (replays_more _ _ _ _ _ _ leads.replays (grind (arith, common_steps)) (grind (arith, common_steps)));
+        room = room-recorded made past _ c.record.ensures.base c.record.ensures.history c.self.inside.size c.record.ensures.capacity c.make_room.ensures.room;
+        leads = record {
+          readers = grind (arith, common_steps);
+          unsealed = λ none. let same : length c.count_offer.new.self.next.items ≡ length c.self.inside.current.tally.next.items = grind (arith, common_steps) in grind (arith, common_steps);
+          replays = rw (c.record.ensures.history, c.record.ensures.base, map-append) (replays_more _ _ _ _ _ _ leads.replays (grind (arith, common_steps)) (grind (arith, common_steps)));
+        };
+        balanced = subst (IsBalanced c.self.inside.size) (stepped c) (balanced_offered c.self.inside.size c.args.reader (arc_value c.args.point.now) (queue_of (steps_until_now c.self.inside.past) c.self.inside.current) c.self.invariant.past.balanced);
+        length = recorded-within made past _ c.record.ensures.base c.record.ensures.history c.make_room.ensures.length;
       };
-      history_length = recorded-within made past _ base history c.make_room.ensures.length;
-      sealed_by_a_step = λ _. recorded-some made past _ base history;
+      sealed_by_a_step = λ _. recorded-some made past _ c.record.ensures.base c.record.ensures.history;
       readers = grind (arith, common_steps);
-      balanced = subst (IsBalanced c.self.inside.size) (stepped c) (balanced_offered c.self.inside.size c.args.reader (arc_value c.args.point.now) (queue_of (steps_until_now c.self.inside.past) c.self.inside.current) c.self.invariant.balanced);
     }
 
-pub returns-clause-step : goal.returns-clause-step
-returns-clause-step c = sym (stepped c) ∙ ap (λ (q : SizedQueue). queue_after_offer q.size c.args.reader (arc_value c.args.point.now) q.queue) c.self.view_is
+pub returns-clause-made : goal.returns-clause-made
+returns-clause-made c =
+    record {
+      answer = grind (arith, common_steps);
+      step = sym (stepped c) ∙ ap (λ (q : SizedQueue). queue_after_offer q.size c.args.reader (arc_value c.args.point.now) q.queue) c.self.view_is;
+      size = grind (arith, common_steps);
+      base = grind (arith, common_steps);
+      history = grind (arith, common_steps);
+    }

@@ -9,16 +9,18 @@ pub invariant_of-self : goal.invariant_of-self
 invariant_of-self c =
     record {
       room = grind (arith, common_steps);
-      past_room = grind (arith, common_steps);
       past = record {
-        readers = grind (arith, common_steps);
-        unsealed = grind (arith, common_steps);
-        replays = grind (arith, common_steps);
+        room = grind (arith, common_steps);
+        leads = record {
+          readers = grind (arith, common_steps);
+          unsealed = grind (arith, common_steps);
+          replays = grind (arith, common_steps);
+        };
+        balanced = grind (arith, common_steps);
+        length = grind (arith, common_steps);
       };
-      history_length = grind (arith, common_steps);
       sealed_by_a_step = grind (arith, common_steps);
       readers = grind (arith, common_steps);
-      balanced = grind (arith, common_steps);
     }
 
 pub invariant_of-self-2 : goal.invariant_of-self-2
@@ -26,27 +28,21 @@ invariant_of-self-2 c =
     let leads = c.make_room.ensures.leads in
     let made = c.make_room.new.self in
     let past = c.record.new.self in
-    let base = c.record.ensures.base in
-    let history = c.record.ensures.history in
     record {
       room = grind (arith, common_steps);
-      past_room = room-recorded made past _ base history c.self.inside.size c.record.ensures.capacity c.make_room.ensures.room;
       past = record {
-        readers = grind (arith, common_steps);
-        unsealed = grind (arith, common_steps);
-        replays = rw (c.record.ensures.history, c.record.ensures.base, map-append) (replays_more _ _ _ _ _ _ leads.replays (grind (arith, common_steps)) (grind (arith, common_steps)));
+        room = room-recorded made past _ c.record.ensures.base c.record.ensures.history c.self.inside.size c.record.ensures.capacity c.make_room.ensures.room;
+        leads = record {
+          readers = grind (arith, common_steps);
+          unsealed = grind (arith, common_steps);
+          replays = rw (c.record.ensures.history, c.record.ensures.base, map-append) (replays_more _ _ _ _ _ _ leads.replays (grind (arith, common_steps)) (grind (arith, common_steps)));
+        };
+        balanced = grind (arith, common_steps);
+        length = recorded-within made past _ c.record.ensures.base c.record.ensures.history c.make_room.ensures.length;
       };
-      history_length = recorded-within made past _ base history c.make_room.ensures.length;
-      sealed_by_a_step = λ _. recorded-some made past _ base history;
+      sealed_by_a_step = λ _. recorded-some made past _ c.record.ensures.base c.record.ensures.history;
       readers = c.self.invariant.readers;
-      balanced = grind (arith, common_steps);
     }
 
-pub make_room-requires-clause-room : goal.make_room-requires-clause-room
-make_room-requires-clause-room c = c.self.invariant.past_room
-
-pub make_room-requires-clause-leads : goal.make_room-requires-clause-leads
-make_room-requires-clause-leads c = c.self.invariant.past
-
-pub make_room-requires-clause-balanced : goal.make_room-requires-clause-balanced
-make_room-requires-clause-balanced c = c.self.invariant.balanced
+pub make_room-requires-clause-past : goal.make_room-requires-clause-past
+make_room-requires-clause-past c = c.self.invariant.past
