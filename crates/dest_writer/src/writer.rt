@@ -5,7 +5,7 @@ ghost use Rattle.dest_writer.specs.Counting.{stream_of, counts_of};
 ghost use Rattle.dest_writer.specs.Drive.{Drives, WritesOnce, driven_by, driven_of, goes_on};
 ghost use Rattle.dest_writer.specs.Gathered.{IsGathered, IsEmptyOrGathered, most_gathered};
 ghost use Rattle.dest_writer.specs.Place.{position, IsPlace};
-ghost use Rattle.dest_writer.specs.Writer.{fresh_writer, wants_batch, left, bytes_left, line_left, writer_after_up, writer_after_take, writer_after_write, writer_after_down};
+ghost use Rattle.dest_writer.specs.Writer.{fresh_writer, wants_batch, left, bytes_left, line_left, unfinished_points, writer_after_up, writer_after_take, writer_after_write, writer_after_down};
 
 use crate::counting::{CallCounts, Counting, Outcome};
 use crate::driven::{DriveReport, Driven, WriterFault};
@@ -147,6 +147,7 @@ impl Writer {
 
     /// How many datapoints of the hand were not wholly taken.
     pub fn unsent(&self) -> usize
+        ensures unfinished { result ≡ length (unfinished_points self.now.writer.written self.now.writer.hand) }
         ensures few { result ≤ length self.now.writer.hand }
     {
         self.hand.len() - self.place.index
