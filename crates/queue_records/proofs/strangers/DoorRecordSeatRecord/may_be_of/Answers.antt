@@ -7,11 +7,5 @@ returns-then-len-le-MOST_ENTRIES-clause-none c = λ no is. c.are_offers_of.ensur
 
 pub returns-then-len-le-MOST_ENTRIES-clause-all : goal.returns-then-len-le-MOST_ENTRIES-clause-all
 returns-then-len-le-MOST_ENTRIES-clause-all c = λ yes.
-    record {
-      named = search rules;
-      count = search rules;
-      totals = search rules;
-      drops = search rules;
-      few = search rules;
-      offers = subst (λ es. AreOffersOf c.args.dests c.args.self.now.seat es) c.as_slice.ensures.value (c.are_offers_of.ensures.all yes);
-    }
+    let offers = subst (λ es. AreOffersOf c.args.dests c.args.self.now.seat es) c.as_slice.ensures.value (c.are_offers_of.ensures.all yes) in
+    search rules

@@ -7,10 +7,5 @@ returns-then-len-le-MOST_ENTRIES-clause-none c = λ no is. c.are_takes_of.ensure
 
 pub returns-then-len-le-MOST_ENTRIES-clause-all : goal.returns-then-len-le-MOST_ENTRIES-clause-all
 returns-then-len-le-MOST_ENTRIES-clause-all c = λ yes.
-    record {
-      named = search rules;
-      count = search rules;
-      totals = search rules;
-      few = search rules;
-      takes = subst (λ es. AreTakesOf c.args.dests c.args.seats c.args.self.now.seat es) c.as_slice.ensures.value (c.are_takes_of.ensures.all yes);
-    }
+    let takes = subst (λ es. AreTakesOf c.args.dests c.args.seats c.args.self.now.seat es) c.as_slice.ensures.value (c.are_takes_of.ensures.all yes) in
+    search rules
