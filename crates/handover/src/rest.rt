@@ -2,7 +2,7 @@
 
 ghost use Rattle.std.specs.Prelude.{◌≡◌, ℕ, ◌≤◌, ◌++◌, ◌+◌, [], length, min, take, true, IsTrue};
 ghost use Rattle.dest_writer.specs.Counting.{stream_of};
-ghost use Rattle.dest_writer.specs.Writer.{bytes_left};
+ghost use Rattle.dest_writer.specs.Writer.{bytes_left, unfinished_points};
 ghost use Rattle.dest_writer.specs.declared.driven.Driven.TheVariants.{Idle};
 ghost use Rattle.line_text.specs.Print.{printed_lines};
 ghost use Rattle.handover.specs.Rest.{TookFirst, left_text, without_connection};
@@ -63,10 +63,6 @@ impl Rest {
             × (length points ≡ min kept (length points) + result) }
         ensures all { self.old.queued ≡ [] → (self.new.queued ≡ points) × (result ≡ 0) }
     {
-        if self.queued.is_empty() {
-            self.queued = points;
-            return 0;
-        }
         self.queued.add(points, most)
     }
 
@@ -78,7 +74,9 @@ impl Rest {
     }
 
     /// How many datapoints in hand no connection has taken whole.
-    pub fn in_hand(&self) -> usize {
+    pub fn in_hand(&self) -> usize
+        ensures { result ≡ length (unfinished_points self.now.writer.written self.now.writer.hand) }
+    {
         self.writer.unsent()
     }
 
