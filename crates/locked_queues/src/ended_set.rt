@@ -1,5 +1,5 @@
 //! A set of queues that has ended.
-ghost use Rattle.std.specs.Prelude.{◌≡◌, ◌*◌, ◌≤◌, [], ◌++◌, map, IfOk, IfErr, IsErrOf};
+ghost use Rattle.std.specs.Prelude.{◌≡◌, ◌*◌, ◌≤◌, [], ◌++◌, map, IfOk, IfErr, IfNone, IsErrOf};
 ghost use Rattle.std.specs.Option.{option_to_list};
 ghost use Rattle.std.specs.Vec.{vec_len, vec_capacity};
 ghost use Rattle.dest_queue.specs.Step.{recorded_of};
@@ -73,6 +73,9 @@ impl EndedSet {
     /// reverse.
     pub fn take_points(&mut self) -> Option<QueuedPoints>
         ensures points { self.old.points.items ≡ self.new.points.items ++ option_to_list result }
+        ensures none { IfNone result (self.old.points.items ≡ []) }
+        ensures set { (self.new.name ≡ self.old.name) × (self.new.receivers ≡ self.old.receivers)
+            × (self.new.senders ≡ self.old.senders) }
         ensures counts { self.new.counts ≡ self.old.counts }
         ensures histories { self.new.histories ≡ self.old.histories }
     {
@@ -106,17 +109,21 @@ impl EndedSet {
             name,
             receivers,
             senders,
+            ..
+        } = self;
+        let dests = self.counts.len();
+        if !are_of_set(name, dests, receivers, senders, doors, outlets) {
+            drop(self);
+            return Err(SettleFault::Strangers);
+        }
+        let EndedSet {
             counts,
             histories,
             freed,
             points,
+            ..
         } = self;
         drop((freed, points));
-        let dests = counts.len();
-        if !are_of_set(name, dests, receivers, senders, doors, outlets) {
-            drop((counts, histories));
-            return Err(SettleFault::Strangers);
-        }
         let copies = Copies { counts, histories };
         compare(alloc, copies, READERS_EACH * receivers, doors, outlets)
     }
