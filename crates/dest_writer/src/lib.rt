@@ -27,6 +27,7 @@ mod driven;
 mod gather_buf;
 pub mod laws;
 mod place;
+mod portion;
 mod printing;
 mod writer;
 mod writes;

@@ -2,7 +2,7 @@
 ghost use Rattle.std.specs.Prelude.{◌≡◌, ◌==◌, ◌||◌, not, ◌<◌, ◌≤◌, ◌+◌, ◌-◌, ◌↔◌, true, false, [], length, take, IfOk, IfSome, IfNone, OnOk, OnErr, IsErrOf};
 ghost use Rattle.line_text.specs.Print.{longest_printed};
 ghost use Rattle.dest_writer.specs.Counting.{stream_of, counts_of};
-ghost use Rattle.dest_writer.specs.Drive.{Drives, WritesOnce, driven_by, driven_of, goes_on};
+ghost use Rattle.dest_writer.specs.Drive.{Drives, driven_by, driven_of, goes_on};
 ghost use Rattle.dest_writer.specs.Gathered.{IsGathered, IsEmptyOrGathered, most_gathered};
 ghost use Rattle.dest_writer.specs.Place.{position, IsPlace};
 ghost use Rattle.dest_writer.specs.Writer.{fresh_writer, wants_batch, left, bytes_left, line_left, unfinished_points, writer_after_up, writer_after_take, writer_after_write, writer_after_down};
@@ -11,8 +11,9 @@ use crate::counting::{CallCounts, Counting, Outcome};
 use crate::driven::{DriveReport, Driven, WriterFault};
 use crate::gather_buf::GatherBuf;
 use crate::place::{Place, place_behind};
+use crate::portion::{OneLine, Portion};
 use crate::printing::{print_at, text_length};
-use crate::writes::{MOST_WRITES, goes_on, write_once};
+use crate::writes::{MOST_WRITES, goes_on};
 use dest_queue::Hand;
 use line_text::{LONGEST_PRINTED, LineBuf};
 use relay_base::NoMemory;
@@ -212,7 +213,7 @@ impl Writer {
             (W.contents stream.new) }
         ensures limit { self.new.limit ≡ self.old.limit }
     {
-        self.drive_lines(stream, counts).driven
+        self.drive_by(&mut OneLine, stream, counts).driven
     }
 
     /// [`Writer::drive`] with many lines a write: each write offers what is left of the current line
@@ -230,40 +231,18 @@ impl Writer {
         ensures limit { self.new.limit ≡ self.old.limit }
     {
         gathered.clear();
-        self.drive_gathers(gathered, &mut sink.stream, &mut sink.counts)
+        self.drive_by(gathered, &mut sink.stream, &mut sink.counts)
     }
 
-    /// Writes line by line.
-    fn drive_lines<W: Write>(&mut self, stream: &mut W, counts: &mut CallCounts) -> DriveReport
-        requires { self.old.writer.up ≡ true }
-        ensures drives { Drives result.driven result.wrote self.old.writer self.new.writer
-            counts.old counts.new (W.contents stream.old) (W.contents stream.new) }
-        ensures limit { self.new.limit ≡ self.old.limit }
-    {
-        let before = counts.last();
-        if self.is_done() {
-            return self.report(0, before);
-        }
-        let mut wrote = 0;
-        for _ in 0..MOST_WRITES {
-            wrote += self.write_line(stream, counts);
-            let outcome = counts.last();
-            if self.is_over(outcome) {
-                return self.report(wrote, outcome);
-            }
-        }
-        self.report(wrote, counts.last())
-    }
-
-    /// Writes many lines at a time. Nothing is gathered at first.
-    fn drive_gathers<W: Write>(
+    /// Makes one write after another, each of the next portion.
+    fn drive_by<P: Portion<W>, W: Write>(
         &mut self,
-        gathered: &mut GatherBuf,
+        portion: &mut P,
         stream: &mut W,
         counts: &mut CallCounts,
     ) -> DriveReport
         requires up { self.old.writer.up ≡ true }
-        requires empty { gathered.old.bytes ≡ [] }
+        requires fits { P.fits self.old.writer portion.old }
         ensures drives { Drives result.driven result.wrote self.old.writer self.new.writer
             counts.old counts.new (W.contents stream.old) (W.contents stream.new) }
         ensures limit { self.new.limit ≡ self.old.limit }
@@ -274,7 +253,7 @@ impl Writer {
         }
         let mut wrote = 0;
         for _ in 0..MOST_WRITES {
-            wrote += self.write_gathered(gathered, stream, counts);
+            wrote += portion.write(self, stream, counts);
             let outcome = counts.last();
             if self.is_over(outcome) {
                 return self.report(wrote, outcome);
@@ -283,45 +262,8 @@ impl Writer {
         self.report(wrote, counts.last())
     }
 
-    /// Makes one write of what is left of the current line, and returns how many bytes were taken.
-    fn write_line<W: Write>(&mut self, stream: &mut W, counts: &mut CallCounts) -> usize
-        requires some { 0 < left self.old.writer }
-        ensures once { WritesOnce result self.old.writer self.new.writer counts.old counts.new
-            (W.contents stream.old) (W.contents stream.new) }
-        ensures most { result ≤ longest_printed }
-        ensures limit { self.new.limit ≡ self.old.limit }
-    {
-        let bytes = self.next_bytes();
-        let length = bytes.len();
-        let count = write_once(bytes, stream, counts);
-        self.pass_in_line(length, count);
-        count
-    }
-
-    /// Makes one write of what is gathered, or of more lines where nothing is, and returns how many
-    /// bytes were taken.
-    fn write_gathered<W: Write>(
-        &mut self,
-        gathered: &mut GatherBuf,
-        stream: &mut W,
-        counts: &mut CallCounts,
-    ) -> usize
-        requires some { 0 < left self.old.writer }
-        requires gathered { IsEmptyOrGathered self.old.writer gathered.old }
-        ensures once { WritesOnce result self.old.writer self.new.writer counts.old counts.new
-            (W.contents stream.old) (W.contents stream.new) }
-        ensures gathered { IsEmptyOrGathered self.new.writer gathered.new }
-        ensures most { result ≤ most_gathered }
-        ensures limit { self.new.limit ≡ self.old.limit }
-    {
-        self.gather_more(gathered);
-        let count = write_once(gathered.bytes(), stream, counts);
-        self.pass_gathered(gathered, count);
-        count
-    }
-
     /// Gathers the next lines, unless some are gathered.
-    fn gather_more(&mut self, gathered: &mut GatherBuf)
+    pub(crate) fn gather_more(&mut self, gathered: &mut GatherBuf)
         requires some { 0 < left self.old.writer }
         requires gathered { IsEmptyOrGathered self.old.writer gathered.old }
         ensures same { self.new ≡ self.old }
@@ -344,7 +286,7 @@ impl Writer {
     }
 
     /// The connection took the next bytes of what is gathered.
-    fn pass_gathered(&mut self, gathered: &mut GatherBuf, count: usize)
+    pub(crate) fn pass_gathered(&mut self, gathered: &mut GatherBuf, count: usize)
         requires gathered { IsGathered self.old.writer gathered.old }
         requires within { count ≤ length gathered.old.bytes }
         ensures step { self.new.writer ≡ writer_after_write count self.old.writer }
@@ -386,7 +328,7 @@ impl Writer {
     }
 
     /// The connection took the next bytes of the current line, `count` of the `rest` that was left.
-    fn pass_in_line(&mut self, rest: usize, count: usize)
+    pub(crate) fn pass_in_line(&mut self, rest: usize, count: usize)
         requires some { 0 < left self.old.writer }
         requires rest { rest ≡ length (line_left self.old.writer) }
         requires within { count ≤ left self.old.writer }
