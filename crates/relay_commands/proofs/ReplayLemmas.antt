@@ -11,11 +11,22 @@ use Rattle.relay_files.specs.declared.fault.RelayFault.{RelayFault}
 use Rattle.relay_files.specs.declared.fault.RelayFault.TheVariants.{NoMemory, CannotRead}
 use Rattle.relay_files.specs.declared.source.Sources.{Sources}
 use Rattle.relay_files.specs.Files.{File, Unreadable, Bytes, Files, ReadAs, AllReadAs}
-use Rattle.relay_files.specs.Configuration.{Configuration, configuration_of, text_in}
+use Rattle.relay_files.specs.Checksum.{sum_of}
+use Rattle.relay_files.specs.Configuration.{Configuration, configuration_of, files_of, text_in}
+use Rattle.relay_files.specs.declared.configuration.Configuration.{Configuration as ReadConfiguration}
 use Rattle.relay_files.specs.Faults.{Fails, EndsAt}
 use Rattle.relay_commands.specs.Replay.{EndsAtScript, AtFiles, script_fault, script_in, lines_in, text_of_replay, text_of_lines, replay_answer, replay_lines_answer}
 use Rattle.replay.specs.declared.handed_form.HandedForm.{HandedForm}
 use Rattle.std.proofs.Common.{List, ℕ}
+
+-- what was read from the files, as definitions see it
+abbrev pub configuration_seen : ReadConfiguration → Configuration
+configuration_seen read =
+    record {
+      settings = read.settings;
+      plan = read.plan;
+      sum = sum_of (files_of (λ v. v.items) read.config read.rules read.rewrite);
+    }
 
 -- a command that ends at its files has not read its script
 pub ends_at_files : {S T X U : Type 0} (known : S → Option (List ℕ)) (bytes : Option (List ℕ)) (old new : Sources S) (given : T) (script : File → Result X RelayFault) (reported : RelayFault) (result : Result U RelayFault)

@@ -1,9 +1,7 @@
 use Rattle.std.proofs.lemmas.Result.{err_from_is_err_and}
 use Rattle.std.proofs.Common.{refl}
-use Rattle.relay_files.specs.Checksum.{sum_of}
-use Rattle.relay_files.specs.Configuration.{Configuration, files_of}
 use Rattle.relay_commands.specs.Replay.{AtScript, InReplay}
-use Rattle.relay_commands.proofs.ReplayLemmas.{ends_at_files, replay_is}
+use Rattle.relay_commands.proofs.ReplayLemmas.{configuration_seen, ends_at_files, replay_is}
 use Rattle.relay_commands.proofs.replay_command.text_of_replay.Goals as goal
 
 pub returns-in_err-settings-clause-err : goal.returns-in_err-settings-clause-err
@@ -26,11 +24,6 @@ pub returns-clause-ok : goal.returns-clause-ok
 returns-clause-ok g c =
     let read = c.in_ok-settings.ensures.ok in
     let script = c.in-Ok.ensures.ok in
-    let all = c.in_ok-settings.field-0 in
-    let configuration : Configuration = record {
-      settings = c.in_ok-settings.field-0.settings;
-      plan = c.in_ok-settings.field-0.plan;
-      sum = sum_of (files_of (λ v. v.items) all.config all.rules all.rewrite);
-    } in
+    let configuration = configuration_seen c.in_ok-settings.field-0 in
     let answer = replay_is c.args.form read.0 script.0 configuration c.in-Ok.script read.2 script.2 in
     (read.0, read.1, (script.0, script.1, rw (c.in_ok-text.ensures, c.max_queue_size.ensures.size, c.max_datapoints_per_message.ensures.limit, c.destinations.ensures.list) answer))
