@@ -162,47 +162,17 @@ fn read_after_rest<N: SharedNames>(
     ensures same { rest.new.items ≡ rest.old.items }
     ensures kept { take (length out.old.items) out.new.items ≡ out.old.items }
 {
-    let first = end_line(alloc, names, rest, head, moment, out)?;
-    if first.too_long {
-        return Ok(first);
-    }
-    let others = read_lines(alloc, names, lines, moment, out)?;
-    Ok(LinesRead {
-        bad_lines: first.bad_lines.saturating_add(others.bad_lines),
-        too_long: others.too_long,
-    })
-}
-
-/// Reads the line that the rest and these bytes are, unless it is too long.
-fn end_line<N: SharedNames>(
-    alloc: Global,
-    names: &N,
-    rest: &mut Vec<u8>,
-    more: &[u8],
-    moment: Moment,
-    out: &mut Vec<Point>,
-) -> Result<LinesRead, NoMemory>
-    ensures too_long { IfOk result (λ read. read.too_long
-        ≡ not (fits (rest.old.items ++ more.now))) }
-    ensures gained { OnOk result (fits (rest.old.items ++ more.now) ≡ true
-        → out.new.items ≡ out.old.items ++ points (one_line (rest.old.items ++ more.now) moment)) }
-    ensures bad { IfOk result (λ read. fits (rest.old.items ++ more.now) ≡ true
-        → read.bad_lines ≡ bad_count (one_line (rest.old.items ++ more.now) moment)) }
-    ensures nothing { IfOk result (λ read. fits (rest.old.items ++ more.now) ≡ false
-        → (read.bad_lines ≡ 0) × (out.new.items ≡ out.old.items)) }
-    ensures err { OnErr result (out.new.items ≡ out.old.items) }
-    ensures same { rest.new.items ≡ rest.old.items }
-{
-    if is_over_limit(rest.len(), more.len()) {
+    if is_over_limit(rest.len(), head.len()) {
         return Ok(LinesRead {
             bad_lines: 0,
             too_long: true,
         });
     }
-    let bad = push_joined(alloc, names, rest, more, moment, out)?;
+    let bad = push_joined(alloc, names, rest, head, moment, out)?;
+    let others = read_lines(alloc, names, lines, moment, out)?;
     Ok(LinesRead {
-        bad_lines: u64::from(bad),
-        too_long: false,
+        bad_lines: u64::from(bad).saturating_add(others.bad_lines),
+        too_long: others.too_long,
     })
 }
 
