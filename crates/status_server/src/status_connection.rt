@@ -74,61 +74,61 @@ impl StatusConnection {
         service: &mut StatusService<'_, T>,
         millis: u64,
     ) -> Progress {
-        let progress = match self.stage {
-            Stage::Question => self.read_request(service, millis),
-            Stage::Answer => self.write_answer(service, millis),
-            Stage::End => self.read_away(),
-        };
-        if matches!(progress, Progress::Waits) && millis >= self.until {
-            return Progress::Over;
+        for _ in 0..MOST_TRIES {
+            match self.try_once(service, millis) {
+                None => {}
+                Some(Progress::Waits) => break,
+                Some(Progress::Over) => return Progress::Over,
+            }
         }
-        progress
+        if millis >= self.until {
+            Progress::Over
+        } else {
+            Progress::Waits
+        }
     }
 
-    /// Reads until there is an answer to write.
-    fn read_request<T: StatusTexts>(
+    /// Makes one read or write, or enters the next stage. Returns what the connection does next, unless it goes on.
+    fn try_once<T: StatusTexts>(
         &mut self,
         service: &mut StatusService<'_, T>,
         millis: u64,
-    ) -> Progress {
-        for _ in 0..MOST_TRIES {
-            self.connection.advance(service);
-            if self.connection.wants_write() {
-                self.enter(Stage::Answer, millis);
-                return self.write_answer(service, millis);
-            }
-            if self.connection.is_done() {
-                return Progress::Over;
-            }
-            match Transfer::of(self.connection.read_from(&mut self.stream)) {
-                Transfer::Bytes(_) | Transfer::End => {}
-                Transfer::Blocked => return Progress::Waits,
-                Transfer::Failed => return Progress::Over,
-            }
+    ) -> Option<Progress> {
+        if matches!(self.stage, Stage::End) {
+            return Some(self.read_away());
         }
-        Progress::Waits
-    }
-
-    /// Writes what its peer takes of the answer. After the last byte it closes its side.
-    fn write_answer<T: StatusTexts>(
-        &mut self,
-        service: &mut StatusService<'_, T>,
-        millis: u64,
-    ) -> Progress {
-        for _ in 0..MOST_TRIES {
-            self.connection.advance(service);
-            if !self.connection.wants_write() {
+        self.connection.advance(service);
+        match (self.stage, self.connection.wants_write()) {
+            (Stage::Question, true) => self.enter(Stage::Answer, millis),
+            (Stage::Question, false) => return self.read_request(),
+            (_, true) => return self.write_answer(),
+            (_, false) => {
                 let _ = self.stream.shutdown(Shutdown::Write);
                 self.enter(Stage::End, millis);
-                return self.read_away();
-            }
-            match Transfer::of(self.connection.write_to(&mut self.stream)) {
-                Transfer::Bytes(_) => {}
-                Transfer::Blocked => return Progress::Waits,
-                Transfer::End | Transfer::Failed => return Progress::Over,
             }
         }
-        Progress::Waits
+        None
+    }
+
+    /// Makes one read of the request.
+    fn read_request(&mut self) -> Option<Progress> {
+        if self.connection.is_done() {
+            return Some(Progress::Over);
+        }
+        match Transfer::of(self.connection.read_from(&mut self.stream)) {
+            Transfer::Bytes(_) | Transfer::End => None,
+            Transfer::Blocked => Some(Progress::Waits),
+            Transfer::Failed => Some(Progress::Over),
+        }
+    }
+
+    /// Writes what its peer takes of the answer.
+    fn write_answer(&mut self) -> Option<Progress> {
+        match Transfer::of(self.connection.write_to(&mut self.stream)) {
+            Transfer::Bytes(_) => None,
+            Transfer::Blocked => Some(Progress::Waits),
+            Transfer::End | Transfer::Failed => Some(Progress::Over),
+        }
     }
 
     /// Reads and drops all bytes, until its peer has closed the connection.
