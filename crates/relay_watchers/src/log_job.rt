@@ -110,39 +110,6 @@ fn logged_at(noted: DestSources<'_>, place: usize) -> LoggedDest {
 }
 
 impl<'x, B: Set, L: Write + Drop> LogJob<'x, B, L> {
-    /// The log of these destinations, all of them, with this size of their queues, of these receivers, and of these
-    /// destinations that are gone. It begins with these news. Refuses if out of memory.
-    fn new(
-        alloc: Global,
-        queues: &'x Queues<B>,
-        noted: DestSources<'x>,
-        gone: &'x [GoneDest],
-        late_news: &'x LateNews,
-        size: usize,
-        receivers: Vec<ReceiverLog>,
-        news: String,
-        output: L,
-        began: Option<Instant>,
-    ) -> Result<LogJob<'x, B, L>, NoMemory>
-        requires all { length noted.dests.now ≡ B.dests }
-    {
-        let reported = reported_of(alloc, noted)?;
-        Ok(LogJob {
-            queues,
-            noted,
-            gone,
-            late_news,
-            size,
-            reported,
-            receivers,
-            gone_reported: 0,
-            lost_senders: 0,
-            news,
-            output,
-            began,
-        })
-    }
-
     /// Looks at all once a second, until the senders stop.
     fn look_until_stopped<R: Wait + Clock>(&mut self, rt: &R, alloc: Global, signals: &Signals) {
         let times = SystemTimes::since(rt, self.began);
@@ -353,7 +320,8 @@ fn lost_sender_line(alloc: Global, number: usize) -> Result<String, AllocError> 
     Ok(line)
 }
 
-/// The log of destinations, all of them, of receivers, and of destinations that are gone, if one is to be written.
+/// The log of destinations, all of them, with this size of their queues, of receivers, and of destinations that are gone, if
+/// one is to be written. It begins with these news. Refuses if out of memory.
 pub(crate) fn log_to<'x, B: Set, L: Write + Drop>(
     alloc: Global,
     queues: &'x Queues<B>,
@@ -368,13 +336,22 @@ pub(crate) fn log_to<'x, B: Set, L: Write + Drop>(
 ) -> Result<Option<LogJob<'x, B, L>>, NoMemory>
     requires all { length noted.dests.now ≡ B.dests }
 {
-    match log {
-        Some(output) => {
-            let job = LogJob::new(
-                alloc, queues, noted, gone, late_news, size, receivers, news, output, began,
-            );
-            Ok(Some(job?))
-        }
-        None => Ok(None),
-    }
+    let Some(output) = log else {
+        return Ok(None);
+    };
+    let reported = reported_of(alloc, noted)?;
+    Ok(Some(LogJob {
+        queues,
+        noted,
+        gone,
+        late_news,
+        size,
+        reported,
+        receivers,
+        gone_reported: 0,
+        lost_senders: 0,
+        news,
+        output,
+        began,
+    }))
 }
