@@ -1,8 +1,8 @@
 //! The record of a run: its replay script.
 
-ghost use Rattle.std.specs.Prelude.{◌≡◌, ◌≤◌, length, IfOk};
+ghost use Rattle.std.specs.Prelude.{◌≡◌, ◌≤◌, length, IfOk, Ok};
 ghost use Rattle.std.specs.String.{string_bytes};
-ghost use Rattle.run_record.specs.Recorded.{IsRecord, IsRecordOfRun};
+ghost use Rattle.run_record.specs.Recorded.{IsRecordOfRun};
 
 use crate::history::is_order_of;
 use crate::parts::RunParts;
@@ -15,7 +15,6 @@ use mio_loops::{InputLog, LogInput, MOST_LOG_ENTRIES, WriteLog, WriterEntry};
 use reader_core::ReaderKind;
 use relay_base::{LARGEST_MESSAGE, LARGEST_QUEUE_SIZE, NoMemory, add};
 use relay_core::Event;
-use relay_files::RunConfiguration;
 use std::alloc::Global;
 
 /// The record of a finished run: its replay script. Refuses a run that has not settled, or whose histories and logs are not
@@ -27,10 +26,14 @@ pub fn record_run(alloc: Global, run: &FinishedRun<'_>) -> Result<String, Record
     requires limit { (1 ≤ run.now.shape.limit) × (run.now.shape.limit ≤ LARGEST_MESSAGE) }
     ensures { IfOk result (λ script. IsRecordOfRun run.now (string_bytes script)) }
 {
-    match run.settled {
-        Ok(settled) => record_of(alloc, run.configuration, run.shape, settled, run.logs),
-        Err(fault) => Err(fault_of(fault)),
-    }
+    let settled = match run.settled {
+        Ok(settled) => settled,
+        Err(fault) => return Err(fault_of(fault)),
+    };
+    let mut lists = Lists::new(alloc);
+    let record = record_by(alloc, run, settled, &mut lists);
+    drop(lists);
+    record
 }
 
 /// Why a run that has not settled has no record.
@@ -40,26 +43,6 @@ fn fault_of(fault: &SettleFault) -> RecordFault {
         SettleFault::NoMemory => RecordFault::NoMemory,
         _ => RecordFault::NotSettled,
     }
-}
-
-/// The record of a run that has settled: the script of a run by its configuration, with the counts of its queues.
-fn record_of(
-    alloc: Global,
-    configuration: &RunConfiguration,
-    shape: RunShape,
-    settled: &Settled,
-    logs: &ThreadLogs,
-) -> Result<String, RecordFault>
-    requires dests { length configuration.now.settings.routing.destinations ≡ shape.dests }
-    requires size { (1 ≤ shape.size) × (shape.size ≤ LARGEST_QUEUE_SIZE) }
-    requires limit { (1 ≤ shape.limit) × (shape.limit ≤ LARGEST_MESSAGE) }
-    ensures { IfOk result (λ script. IsRecord configuration.now.plan shape.size shape.limit
-        settled.now.histories.items settled.now.order.items settled.now.counts.items (string_bytes script)) }
-{
-    let mut lists = Lists::new(alloc);
-    let record = record_by(alloc, configuration, shape, settled, logs, &mut lists);
-    drop(lists);
-    record
 }
 
 /// What was logged: the kind of each reader and what it was fed, and what each destination's writer did.
@@ -93,39 +76,23 @@ impl<'b> Lists<'b> {
     }
 }
 
-/// The record of a run that has settled, made in these lists.
+/// The record of a finished run, which has settled so: the script of a run by its configuration, with the counts of its
+/// queues, made in these lists.
 fn record_by<'b>(
     alloc: Global,
-    configuration: &RunConfiguration,
-    shape: RunShape,
+    run: &FinishedRun<'b>,
     settled: &Settled,
-    logs: &'b ThreadLogs,
     lists: &mut Lists<'b>,
 ) -> Result<String, RecordFault>
-    requires dests { length configuration.now.settings.routing.destinations ≡ shape.dests }
-    requires size { (1 ≤ shape.size) × (shape.size ≤ LARGEST_QUEUE_SIZE) }
-    requires limit { (1 ≤ shape.limit) × (shape.limit ≤ LARGEST_MESSAGE) }
-    ensures { IfOk result (λ script. IsRecord configuration.now.plan shape.size shape.limit
-        settled.now.histories.items settled.now.order.items settled.now.counts.items (string_bytes script)) }
+    requires dests { length run.now.configuration.now.settings.routing.destinations
+        ≡ run.now.shape.dests }
+    requires size { (1 ≤ run.now.shape.size) × (run.now.shape.size ≤ LARGEST_QUEUE_SIZE) }
+    requires limit { (1 ≤ run.now.shape.limit) × (run.now.shape.limit ≤ LARGEST_MESSAGE) }
+    requires settled { run.now.settled.now ≡ Ok settled.now }
+    ensures { IfOk result (λ script. IsRecordOfRun run.now (string_bytes script)) }
 {
-    lists.add_logs(alloc, shape, logs)?;
-    record_with(alloc, configuration, shape, settled, lists)
-}
-
-/// The record of a run that has settled, whose threads logged this.
-fn record_with(
-    alloc: Global,
-    configuration: &RunConfiguration,
-    shape: RunShape,
-    settled: &Settled,
-    lists: &Lists<'_>,
-) -> Result<String, RecordFault>
-    requires dests { length configuration.now.settings.routing.destinations ≡ shape.dests }
-    requires size { (1 ≤ shape.size) × (shape.size ≤ LARGEST_QUEUE_SIZE) }
-    requires limit { (1 ≤ shape.limit) × (shape.limit ≤ LARGEST_MESSAGE) }
-    ensures { IfOk result (λ script. IsRecord configuration.now.plan shape.size shape.limit
-        settled.now.histories.items settled.now.order.items settled.now.counts.items (string_bytes script)) }
-{
+    let shape = run.shape;
+    lists.add_logs(alloc, shape, run.logs)?;
     if lists.kinds.is_empty() || lists.kinds.len() > MOST_READERS {
         return Err(RecordFault::NotOneRun);
     }
@@ -136,7 +103,7 @@ fn record_with(
     )? {
         return Err(RecordFault::NotOneRun);
     }
-    let Ok(plan) = configuration.plan(alloc) else {
+    let Ok(plan) = run.configuration.plan(alloc) else {
         return Err(RecordFault::NoMemory);
     };
     let parts = RunParts {
