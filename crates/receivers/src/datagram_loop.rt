@@ -72,30 +72,8 @@ impl DatagramLoop {
         })
     }
 
-    /// Takes datagrams until there are no more, at most [`MOST_DATAGRAMS`] of them, and returns how that ended. Each is
-    /// fed, and all its offers are made, before the next is taken; before the first the offers that wait are made.
-    pub(crate) fn receive_some<A: Datagrams, D: Door>(
-        &mut self,
-        socket: &mut A,
-        plan: &mut Plan,
-        door: &mut D,
-        moment: Moment,
-    ) -> DatagramOutcome
-        requires { IsReady plan.old self.old (D.record_of door.old) }
-        ensures { DatagramsProgress (IsRefusedBy D.may_refuse) (is_at moment) plan.old plan.new self.old self.new
-            (D.record_of door.old) (D.record_of door.new) }
-    {
-        for _ in 0..MOST_DATAGRAMS {
-            match self.receive_one(socket, plan, door, moment) {
-                DatagramOutcome::Fed => {}
-                ended => return ended,
-            }
-        }
-        DatagramOutcome::Fed
-    }
-
     /// Makes the offers that wait, takes one datagram, feeds it, and makes its offers.
-    fn receive_one<A: Datagrams, D: Door>(
+    pub(crate) fn receive_one<A: Datagrams, D: Door>(
         &mut self,
         socket: &mut A,
         plan: &mut Plan,

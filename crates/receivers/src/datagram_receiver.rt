@@ -5,7 +5,7 @@ ghost use Rattle.receivers.specs.Datagrams.{DatagramsProgress, IsReady};
 ghost use Rattle.receivers.specs.Record.{EndsFor, RanOrRefused};
 ghost use Rattle.reader_core.specs.declared.kind.ReaderKind.TheVariants.{Datagram};
 
-use crate::datagram_loop::{DatagramLoop, DatagramOutcome};
+use crate::datagram_loop::{DatagramLoop, DatagramOutcome, MOST_DATAGRAMS};
 use crate::datagrams::Datagrams;
 use crate::noting_times::NotingTimes;
 use crate::record::{ReceiverRecord, without_memory};
@@ -132,7 +132,9 @@ fn take_turn<A: Datagrams, D: Door, T: TimeSource>(
     }
 }
 
-/// Takes datagrams, all at the moment that the clock returns now, and returns how that ended.
+/// Takes datagrams until there are no more, at most [`MOST_DATAGRAMS`] of them, all at the moment that the clock returns
+/// now, and returns how that ended. Each is fed, and all its offers are made, before the next is taken; before the first
+/// the offers that wait are made.
 fn receive_now<A: Datagrams, D: Door, T: TimeSource>(
     socket: &mut A,
     datagrams: &mut DatagramLoop,
@@ -144,5 +146,12 @@ fn receive_now<A: Datagrams, D: Door, T: TimeSource>(
     ensures { DatagramsProgress (IsRefusedBy D.may_refuse) (T.may_give times.now) plan.old plan.new datagrams.old datagrams.new
         (D.record_of door.old) (D.record_of door.new) }
 {
-    datagrams.receive_some(socket, plan, door, times.moment())
+    let moment = times.moment();
+    for _ in 0..MOST_DATAGRAMS {
+        match datagrams.receive_one(socket, plan, door, moment) {
+            DatagramOutcome::Fed => {}
+            ended => return ended,
+        }
+    }
+    DatagramOutcome::Fed
 }

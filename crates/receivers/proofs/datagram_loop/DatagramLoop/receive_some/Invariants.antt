@@ -1,7 +1,0 @@
-use Rattle.queue_records.specs.Offers.{IsRefusedBy}
-use Rattle.receivers.specs.Datagrams.{DatagramsProgress, is_at}
-use Rattle.receivers.proofs.datagram_loop.DatagramLoop.receive_some.Given as goal
-
--- the datagrams so far
-abbrev pub invariant-loop : goal.invariant-loop
-invariant-loop g l = DatagramsProgress (IsRefusedBy g.D.Door.may_refuse) (is_at l.moment) l.fn.plan l.plan l.fn.self l.self (g.D.Door.record_of l.fn.door) (g.D.Door.record_of l.door)
