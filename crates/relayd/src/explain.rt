@@ -2,19 +2,19 @@
 
 use crate::files::STANDARD_INPUT;
 use crate::memory_there::memory_there;
+use crate::reread_files::{RereadFile, RereadFiles};
 use crate::spool_folder::write_folder_notes;
 use crate::system_faults::{settings_of, write_fault_notes, write_hint};
 use command_line::{Explain, Invocation, Paths};
 use config_notes::{NotesWanted, RunLimits, notes_of_files};
 use fault_notes::{Seconds, WatchedInput, notes_of_fault, notes_of_name, notes_of_names};
 use line_text::Moment;
-use note_text::{Notes, Source, SourceText, Sources};
+use note_text::Notes;
 use relay_base::NoMemory;
 use relay_files::{RelayFault, Status};
 use std::alloc::Global;
 use std::io::{Stderr, Stdin, Write};
 use std::time::Instant;
-use std::{fs, str};
 
 /// Writes the notes that a run was asked for, and returns how it ends. If there is no memory for them, there are none. A
 /// run that was not asked for notes, and has a fault, has a hint at a terminal.
@@ -143,14 +143,8 @@ fn notes_of(
     wanted: NotesWanted,
 ) -> Result<Notes, NoMemory> {
     let is_check = matches!(invocation, Invocation::Check { .. });
-    let config = RereadFile::new(rt, alloc, &paths.config)?;
-    let rules = RereadFile::of_given(rt, alloc, &paths.rules)?;
-    let rewrite = RereadFile::of_given(rt, alloc, &paths.rewrite)?;
-    let files = Sources {
-        config: config.source(),
-        rules: rules.as_ref().map(RereadFile::source),
-        rewrite: rewrite.as_ref().map(RereadFile::source),
-    };
+    let read = RereadFiles::new(rt, alloc, paths)?;
+    let files = read.sources();
     let limits = RunLimits {
         memory: memory_there(rt, alloc),
         lacks_longest_name: is_check && paths.longest_name.is_none(),
@@ -158,65 +152,6 @@ fn notes_of(
     match notes_of_fault(alloc, &files)? {
         Some(notes) => Ok(notes),
         None => notes_of_files(alloc, &files, limits, wanted),
-    }
-}
-
-/// What reading a file again gave: its bytes, or why it cannot be read.
-#[derive(Drop)]
-pub struct RereadFile<'p> {
-    path: &'p str,
-    bytes: Vec<u8>,
-    reason: Option<String>,
-}
-
-impl<'p> RereadFile<'p> {
-    pub fn new(
-        rt: &HostRuntime,
-        alloc: Global,
-        path: &'p String,
-    ) -> Result<RereadFile<'p>, NoMemory> {
-        let path = path.as_str();
-        match fs::read(rt, path) {
-            Ok(bytes) => Ok(RereadFile {
-                path,
-                bytes,
-                reason: None,
-            }),
-            Err(error) => Ok(RereadFile {
-                path,
-                bytes: Vec::new(alloc),
-                reason: Some(error.to_string(alloc)?),
-            }),
-        }
-    }
-
-    pub fn of_given(
-        rt: &HostRuntime,
-        alloc: Global,
-        path: &'p Option<String>,
-    ) -> Result<Option<RereadFile<'p>>, NoMemory> {
-        match path {
-            Some(path) => Ok(Some(RereadFile::new(rt, alloc, path)?)),
-            None => Ok(None),
-        }
-    }
-
-    /// The text, if it could be read and is UTF-8.
-    pub fn text(&self) -> Option<&str> {
-        str::from_utf8(self.bytes.as_slice()).ok()
-    }
-
-    pub fn source(&self) -> Source<'_> {
-        let text = match &self.reason {
-            Some(reason) => SourceText::Unreadable {
-                reason: reason.as_str(),
-            },
-            None => SourceText::Bytes(self.bytes.as_slice()),
-        };
-        Source {
-            path: self.path,
-            text,
-        }
     }
 }
 

@@ -16,6 +16,7 @@ mod log_output;
 mod memory_there;
 mod record_file;
 mod reload_files;
+mod reread_files;
 mod spool_folder;
 mod system_faults;
 mod words;

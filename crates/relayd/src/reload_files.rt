@@ -1,11 +1,11 @@
 //! The files of a reload, as the running relay reads them.
 
-use crate::explain::RereadFile;
 use crate::files::sources_at;
+use crate::reread_files::RereadFiles;
 use admin_client::{Refusal, reload_files_in};
 use command_line::Paths;
 use fault_notes::notes_of_fault;
-use note_text::{Notes, Sources};
+use note_text::Notes;
 use relay_base::{NoMemory, whole_number_up_to};
 use relay_files::{LongestName, MOST_CHARACTERS, RelayFault, Role, RunConfiguration, Status};
 use relay_run::{RefusedReload, ReloadSource};
@@ -141,14 +141,8 @@ fn path_text(path: &Option<String>) -> Option<&str> {
 
 /// The notes on the first fault of the files at these paths, if there is one.
 fn notes_of(rt: &HostRuntime, alloc: Global, paths: &Paths) -> Result<Option<Notes>, NoMemory> {
-    let config = RereadFile::new(rt, alloc, &paths.config)?;
-    let rules = RereadFile::of_given(rt, alloc, &paths.rules)?;
-    let rewrite = RereadFile::of_given(rt, alloc, &paths.rewrite)?;
-    let files = Sources {
-        config: config.source(),
-        rules: rules.as_ref().map(RereadFile::source),
-        rewrite: rewrite.as_ref().map(RereadFile::source),
-    };
+    let read = RereadFiles::new(rt, alloc, paths)?;
+    let files = read.sources();
     notes_of_fault(alloc, &files)
 }
 

@@ -1,7 +1,8 @@
 //! `--explain`: notes of what a command could not open, and of a bad line of a script.
 
-use crate::explain::{RereadFile, write};
+use crate::explain::write;
 use crate::relay_options;
+use crate::reread_files::RereadFile;
 use command_line::{Invocation, Paths, RunOptions};
 use conf_text::{Ini, Settings};
 use fault_notes::{SystemNotes, notes_of_script, notes_of_unreadable, open_file_limit};

@@ -1,0 +1,79 @@
+//! What the first thread waits for at the end of a run.
+
+ghost use Rattle.std.specs.Prelude.{◌≡◌};
+
+use crate::gone_dests::GoneDests;
+use crate::relay::Relay;
+use locked_queues::Set;
+use receivers::ClosingWait;
+use run_state::{Drain, EndState, Signals, SpoolWait, Unsent};
+use std::sync::Wait;
+
+/// Something that a run waits for at its end.
+pub(crate) trait EndWait<R> {
+    /// Looks at these milliseconds. Returns whether it is over.
+    fn is_over(&mut self, rt: &R, millis: u64) -> bool;
+}
+
+impl<R> EndWait<R> for ClosingWait<'_> {
+    /// The receivers read what was sent to them, for half a second at most.
+    fn is_over(&mut self, _rt: &R, millis: u64) -> bool {
+        self.look(millis)
+    }
+}
+
+/// The senders send what is left, also to destinations that are gone.
+#[derive(Drop)]
+pub(crate) struct DrainWait<'x, B: Set> {
+    drain: Drain,
+    unsent: Unsent<'x, B>,
+    signals: &'x Signals,
+    gone: &'x GoneDests,
+}
+
+impl<'x, B: Set> DrainWait<'x, B> {
+    /// The drain of a relay with this end begins at these milliseconds.
+    pub(crate) fn begin(relay: &'x Relay<B>, end: &'x EndState, millis: u64) -> DrainWait<'x, B> {
+        DrainWait {
+            drain: Drain::new(millis, end.drain_seconds()),
+            unsent: unsent_of(relay, end),
+            signals: relay.state.signals(),
+            gone: &relay.gone,
+        }
+    }
+}
+
+impl<R: Wait, B: Set> EndWait<R> for DrainWait<'_, B> {
+    fn is_over(&mut self, rt: &R, millis: u64) -> bool {
+        let is_over = self.drain.look(rt, &self.unsent, self.signals, millis);
+        is_over && !self.gone.are_sent_to(millis)
+    }
+}
+
+/// Files get what is not sent.
+#[derive(Drop)]
+pub(crate) struct FilesWait<'x, B: Set> {
+    wait: SpoolWait,
+    unsent: Unsent<'x, B>,
+}
+
+impl<'x, B: Set> FilesWait<'x, B> {
+    /// The files of a relay with this end begin at these milliseconds.
+    pub(crate) fn begin(relay: &'x Relay<B>, end: &'x EndState, millis: u64) -> FilesWait<'x, B> {
+        FilesWait {
+            wait: SpoolWait::new(millis),
+            unsent: unsent_of(relay, end),
+        }
+    }
+}
+
+impl<R: Wait, B: Set> EndWait<R> for FilesWait<'_, B> {
+    fn is_over(&mut self, rt: &R, millis: u64) -> bool {
+        self.wait.look(rt, &self.unsent, millis)
+    }
+}
+
+/// What remains to be sent by a relay with this end.
+fn unsent_of<'x, B: Set>(relay: &'x Relay<B>, end: &'x EndState) -> Unsent<'x, B> {
+    Unsent::new(&relay.queues, relay.noted(), end)
+}

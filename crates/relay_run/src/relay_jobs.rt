@@ -1,0 +1,98 @@
+//! The jobs of the threads of a relay, made of the parts that each is given.
+
+ghost use Rattle.std.specs.Prelude.{◌≡◌, true, length, IfErr};
+ghost use Rattle.relay_run.specs.Running.{is_start_fault};
+
+use crate::parting_job::PartingJob;
+use crate::parting_setup::parting_job;
+use crate::receiver_job::ReceiverJob;
+use crate::receiver_setup::receivers_of;
+use crate::relay::{Parts, Relay, Seats};
+use crate::runtime::RelayRuntime;
+use crate::sender_job::SenderJob;
+use crate::sender_setup::senders_of;
+use crate::thread_jobs::{Jobs, all_jobs};
+use locked_queues::Set;
+use relay_base::NoMemory;
+use relay_files::RelayFault;
+use relay_watchers::{
+    LogJob, ReceiverLog, StatusJob, StatusServer, Watched, watchers_of,
+};
+use std::alloc::Global;
+use std::io::Write;
+
+/// What makes the jobs of a relay's threads.
+#[derive(Drop)]
+pub(crate) struct JobMaker<'x, B: Set, R> {
+    pub(crate) rt: &'x R,
+    pub(crate) alloc: Global,
+    pub(crate) relay: &'x Relay<B>,
+}
+
+/// The jobs of the threads of a relay, of which each has its part. Refuses a fault of the start.
+pub(crate) fn jobs_of<'x, B: Set, R: RelayRuntime, L: Write + Drop>(
+    rt: &'x R,
+    alloc: Global,
+    relay: &'x Relay<B>,
+    parts: Parts<B, L>,
+) -> Result<
+    Jobs<
+        ReceiverJob<'x, B, R>,
+        SenderJob<'x, B, R>,
+        PartingJob<'x, R>,
+        LogJob<'x, B, L>,
+        StatusJob<'x, B>,
+    >,
+    RelayFault,
+>
+    ensures { IfErr result (λ fault. is_start_fault fault ≡ true) }
+{
+    let Parts {
+        seats,
+        receivers,
+        watches,
+        gone_watch,
+        status,
+        log,
+        news,
+        logged,
+    } = parts;
+    let Seats { doors, outlets } = seats;
+    let maker = JobMaker { rt, alloc, relay };
+    let mut logs = Vec::new(alloc);
+    let receiving = receivers_of(&maker, doors, receivers, &mut logs);
+    resume_logs(&mut logs, logged);
+    let sending = senders_of(&maker, outlets, watches);
+    let parting = parting_job(&maker, gone_watch);
+    let watching = watching_of(&maker, logs, news, log, status);
+    all_jobs(receiving, sending, parting, watching)
+}
+
+/// What an earlier log has reported of each receiver is not reported again.
+fn resume_logs(logs: &mut Vec<ReceiverLog>, earlier: Vec<ReceiverLog>) {
+    for (log, earlier) in logs.as_mut_slice().iter_mut().zip(earlier) {
+        log.resume(earlier);
+    }
+}
+
+/// The jobs of the log and of the status server, if there is an output and a server for them; the log begins with these news.
+fn watching_of<'x, B: Set, R, L: Write + Drop>(
+    maker: &JobMaker<'x, B, R>,
+    logs: Vec<ReceiverLog>,
+    news: String,
+    log: Option<L>,
+    server: Option<StatusServer>,
+) -> Result<(Option<LogJob<'x, B, L>>, Option<StatusJob<'x, B>>), NoMemory> {
+    let relay = maker.relay;
+    let watched = Watched {
+        queues: &relay.queues,
+        noted: relay.noted(),
+        gone: relay.gone.shown.as_slice(),
+        late_news: &relay.late_news,
+        size: relay.shape.size,
+        version: relay.shape.version(),
+        configuration: relay.configuration.sum(),
+        began: relay.began,
+    };
+    watchers_of(maker.alloc, &watched, logs, news, log, server)
+}
