@@ -148,6 +148,14 @@ module _ {L : Type 0} where
   stopped-weaker (end.Stopped status) holds more weaker is = weaker status is
   stopped-weaker (end.Followed next) holds more weaker is = tt
 
+  pub never-stopped : (e : RunEnd L) (more : Status → Type 0) → IfStopped e (λ status. ⊥) → IfStopped e more
+  never-stopped (end.Stopped status) more never = absurd never
+  never-stopped (end.Followed next) more never = tt
+
+  pub followed-weaker : (e : RunEnd L) (holds more : NextRun L → Type 0) → ((next : NextRun L) → holds next → more next) → IfFollowed e holds → IfFollowed e more
+  followed-weaker (end.Stopped status) holds more weaker is = tt
+  followed-weaker (end.Followed next) holds more weaker is = weaker next is
+
   pub never-followed : (e : RunEnd L) (more : NextRun L → Type 0) → IfFollowed e (λ next. ⊥) → IfFollowed e more
   never-followed (end.Stopped status) more never = tt
   never-followed (end.Followed next) more never = absurd never

@@ -3,6 +3,7 @@
 ghost use Rattle.std.specs.Prelude.{◌≡◌, true, length};
 ghost use Rattle.std.specs.Option.{is_none};
 
+use crate::end_waits::{DrainWait, EndWait, FilesWait};
 use crate::ended_run::EndedRecord;
 use crate::first_work::FirstWork;
 use crate::listeners::FirstPorts;
@@ -18,10 +19,10 @@ use dest_queue::Counts;
 use finished_run::Recorder;
 use locked_queues::{Queues, Set};
 use mio_loops::{SystemTimes, TimeSource};
-use receivers::{ClosingWait, ReceiverControl, wake_receivers};
-use relay_base::{DestId, NoMemory, add};
+use receivers::{ClosingWait, ReceiverControl};
+use relay_base::{DestId, NoMemory, add, put};
 use relay_watchers::{LogEnd, StatusServer};
-use run_state::{DestSources, Drain, EndState, SpoolWait, Unsent};
+use run_state::DestSources;
 use spool::SpoolDisk;
 use std::alloc::Global;
 use std::net::Net;
@@ -31,14 +32,8 @@ use std::sync::{Arc, Wait};
 /// How many milliseconds a turn waits at most while there is no connection.
 const PAUSE_MS: u64 = 1_000;
 
-/// How many milliseconds pass between two looks at receivers that close.
-const CLOSING_PAUSE_MS: u64 = 1;
-
-/// How many milliseconds pass between two looks at what remains to be sent. Meanwhile no port is open.
-const DRAIN_PAUSE_MS: u64 = 1;
-
-/// How many milliseconds pass between two looks at what remains to be written to files.
-const SPOOL_PAUSE_MS: u64 = 1;
+/// How many milliseconds a turn waits at most at the end of a run: so late is seen what it waits for.
+const END_PAUSE_MS: u64 = 1;
 
 /// What a report is made of: the queues of a relay with their destinations.
 #[derive(Drop)]
@@ -77,12 +72,11 @@ impl<'x, B: Set, R: Wait> Answers<R> for ReportSource<'x, B> {
     }
 }
 
-/// The admin port of a relay, with what the first thread works on, the controls of the receivers, who reads files for a reload,
-/// what all runs have in common, and who records runs.
+/// The admin port of a relay, with what the first thread works on, who reads files for a reload, what all runs have in common,
+/// and who records runs.
 #[derive(Drop)]
 pub(crate) struct AdminPort<'p, B: Set, L, F, K> {
     pub(crate) relay: &'p Relay<B>,
-    pub(crate) controls: &'p [Arc<ReceiverControl>],
     pub(crate) state: &'p mut FirstState<B, L>,
     pub(crate) files: &'p F,
     pub(crate) process: &'p Process<'p>,
@@ -120,6 +114,19 @@ impl RunBefore {
     }
 }
 
+/// Tells the connection that has asked for the reload, if there was one, that this run has begun.
+fn answer_reloaded<B: Set, R: Clock>(
+    rt: &R,
+    relay: &Relay<B>,
+    ports: &mut FirstPorts,
+    before: &mut RunBefore,
+) {
+    if let Some(connection) = before.waiting.take() {
+        let millis = SystemTimes::since(rt, relay.began).millis();
+        ports.admin.answer_reloaded(connection, millis);
+    }
+}
+
 /// Ends the run before, if there was one: it settles and is recorded, the log says how it settled, and what it held is freed.
 fn end_before<B: Set, R: Wait, K: Recorder>(
     rt: &R,
@@ -151,31 +158,28 @@ fn answer_until_ended<B: Set, R: Wait + Clock + Net + SpoolDisk, F: ReloadSource
         if ports.admin.take_turn(rt, alloc, &watched, millis, PAUSE_MS) {
             return None;
         }
-        if let Some(asked) = ports.admin.next_reload(alloc) {
-            let next = prepare(rt, alloc, relay, ports, files, folder, asked, millis);
-            if next.is_some() {
-                return next;
-            }
+        let next = next_run(rt, alloc, relay, ports, files, folder, millis);
+        if next.is_some() {
+            return next;
         }
     }
     unreachable!()
 }
 
-/// Makes ready the run that a connection has asked for, or answers why not.
-fn prepare<B: Set, R: SpoolDisk, F: ReloadSource>(
+/// Makes ready the run that a connection has asked for, if one has, or answers why not.
+fn next_run<B: Set, R: SpoolDisk, F: ReloadSource>(
     rt: &R,
     alloc: Global,
     relay: &Relay<B>,
     ports: &mut FirstPorts,
     files: &F,
     folder: Option<SpoolFolder<'_>>,
-    asked: AskedReload,
     millis: u64,
 ) -> Option<PreparedRun<B>> {
     let AskedReload {
         connection,
         request,
-    } = asked;
+    } = ports.admin.next_reload(alloc)?;
     let prepared = prepared_by(
         rt,
         alloc,
@@ -225,70 +229,59 @@ impl<B: Set, R: Wait + Clock + Net + SpoolDisk, L: Drop, F: ReloadSource, K: Rec
 
     fn serve(&mut self, rt: &R, alloc: Global) {
         let relay = self.relay;
-        if let Some(connection) = self.state.before.waiting.take() {
-            let millis = SystemTimes::since(rt, relay.began).millis();
-            self.state.ports.admin.answer_reloaded(connection, millis);
-        }
-        end_before(rt, alloc, relay, &mut self.state.before, self.recorder);
-        let ports = &mut self.state.ports;
-        self.state.next = answer_until_ended(
-            rt,
-            alloc,
-            relay,
+        let FirstState {
             ports,
-            self.files,
-            self.process.folder,
+            before,
+            next,
+            ..
+        } = &mut *self.state;
+        answer_reloaded(rt, relay, ports, before);
+        end_before(rt, alloc, relay, before, self.recorder);
+        let folder = self.process.folder;
+        put(
+            next,
+            answer_until_ended(rt, alloc, relay, ports, self.files, folder),
         );
-        if self.state.next.is_some() {
-            for streams in &self.relay.streams {
-                streams.open();
-            }
+        if next.is_some() {
+            relay.open_streams();
         }
     }
 
-    fn is_followed(&self) -> bool {
-        self.state.next.is_some()
+    fn is_handing(&self, has_failed: bool) -> bool {
+        self.state.next.is_some() || has_failed && !self.relay.is_first
     }
 
-    fn follows(&self) -> bool {
-        !self.relay.is_first
-    }
-
-    fn close_receivers(&mut self, rt: &R, alloc: Global) {
+    fn close_receivers(&mut self, rt: &R, alloc: Global, controls: &[Arc<ReceiverControl>]) {
         self.state.ports.shut();
         spool_away(self.relay);
-        answer_while_closing(
-            rt,
-            alloc,
-            &mut self.state.ports.admin,
-            self.relay,
-            self.controls,
-        );
+        let millis = SystemTimes::since(rt, self.relay.began).millis();
+        let closing = ClosingWait::begin(controls, millis);
+        answer_until_over(rt, alloc, &mut self.state.ports.admin, self.relay, closing);
     }
 
     fn stop_datagrams(&self) {
         self.relay.orders.stop_datagrams();
     }
 
-    fn wake_receivers(&self) {
-        wake_receivers(self.controls);
-    }
-
     fn drain(&mut self, rt: &R, alloc: Global) {
         let relay = self.relay;
-        if let Some(end) = relay.state.end() {
-            answer_while_draining(rt, alloc, &mut self.state.ports.admin, relay, end);
-        }
-    }
-
-    fn spool(&mut self, rt: &R, alloc: Global) {
-        let relay = self.relay;
-        if let Some(end) = relay.state.end() {
-            if end.is_spooled() {
-                relay.state.signals().begin_spooling();
-                relay.gate.wake_all();
-                answer_while_spooling(rt, alloc, &mut self.state.ports.admin, relay, end);
-            }
+        let Some(end) = relay.state.end() else {
+            return;
+        };
+        let admin = &mut self.state.ports.admin;
+        let draining = DrainWait::begin(relay, end, SystemTimes::since(rt, relay.began).millis());
+        answer_until_over(rt, alloc, admin, relay, draining);
+        if end.is_spooled() {
+            relay.state.signals().begin_spooling();
+            relay.gate.wake_all();
+            let millis = SystemTimes::since(rt, relay.began).millis();
+            answer_until_over(
+                rt,
+                alloc,
+                admin,
+                relay,
+                FilesWait::begin(relay, end, millis),
+            );
         }
     }
 
@@ -301,11 +294,6 @@ impl<B: Set, R: Wait + Clock + Net + SpoolDisk, L: Drop, F: ReloadSource, K: Rec
         self.state.log = log;
         self.state.server = server;
     }
-}
-
-/// What remains to be sent by a relay with this end.
-fn unsent_of<'x, B: Set>(relay: &'x Relay<B>, end: &'x EndState) -> Unsent<'x, B> {
-    Unsent::new(&relay.queues, relay.noted(), end)
 }
 
 /// Refuses a reload, if a connection has asked for one: a relay that stops takes no new configuration.
@@ -338,71 +326,23 @@ fn away_of<B: Set>(relay: &Relay<B>) -> u64 {
     away
 }
 
-/// Answers commands while the receivers close: they read what was sent to them, for half a second at most.
-fn answer_while_closing<R: Wait + Clock + Net, B: Set>(
+/// Answers commands until what a run waits for at its end is over.
+fn answer_until_over<R: Wait + Clock + Net, B: Set, E: EndWait<R> + Drop>(
     rt: &R,
     alloc: Global,
     listener: &mut AdminListener,
     relay: &Relay<B>,
-    controls: &[Arc<ReceiverControl>],
+    wait: E,
 ) {
+    let mut wait = wait;
     let watched = ReportSource::new(relay);
     let times = SystemTimes::since(rt, relay.began);
-    let mut closing = ClosingWait::begin(controls, times.millis());
     for _ in rt.forever() {
         let millis = times.millis();
-        if closing.look(millis) {
+        if wait.is_over(rt, millis) {
             return;
         }
-        let _is_stopped = listener.take_turn(rt, alloc, &watched, millis, CLOSING_PAUSE_MS);
-        refuse_reload(alloc, listener, millis);
-    }
-    unreachable!()
-}
-
-/// Answers commands until the drain is over.
-fn answer_while_draining<R: Wait + Clock + Net, B: Set>(
-    rt: &R,
-    alloc: Global,
-    listener: &mut AdminListener,
-    relay: &Relay<B>,
-    end: &EndState,
-) {
-    let watched = ReportSource::new(relay);
-    let unsent = unsent_of(relay, end);
-    let signals = relay.state.signals();
-    let times = SystemTimes::since(rt, relay.began);
-    let mut drain = Drain::new(times.millis(), end.drain_seconds());
-    for _ in rt.forever() {
-        let millis = times.millis();
-        let is_over = drain.look(rt, &unsent, signals, millis);
-        if is_over && !relay.gone.are_sent_to(millis) {
-            return;
-        }
-        let _is_stopped = listener.take_turn(rt, alloc, &watched, millis, DRAIN_PAUSE_MS);
-        refuse_reload(alloc, listener, millis);
-    }
-    unreachable!()
-}
-
-/// Answers commands until files have what is not sent.
-fn answer_while_spooling<R: Wait + Clock + Net, B: Set>(
-    rt: &R,
-    alloc: Global,
-    listener: &mut AdminListener,
-    relay: &Relay<B>,
-    end: &EndState,
-) {
-    let watched = ReportSource::new(relay);
-    let unsent = unsent_of(relay, end);
-    let times = SystemTimes::since(rt, relay.began);
-    let mut wait = SpoolWait::new(times.millis());
-    for _ in rt.forever() {
-        let millis = times.millis();
-        if wait.look(rt, &unsent, millis) {
-            return;
-        }
-        let _is_stopped = listener.take_turn(rt, alloc, &watched, millis, SPOOL_PAUSE_MS);
+        let _is_stopped = listener.take_turn(rt, alloc, &watched, millis, END_PAUSE_MS);
         refuse_reload(alloc, listener, millis);
     }
     unreachable!()

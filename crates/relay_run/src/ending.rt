@@ -11,18 +11,21 @@ use crate::threads::StartedThreads;
 use finished_run::FedLog;
 use locked_queues::{DoorRecord, OutletRecord};
 use mio_loops::WriteLog;
+use receivers::{ReceiverControl, wake_receivers};
 use relay_files::RelayFault;
 use run_state::Signals;
 use std::alloc::Global;
 use std::rt::Clock;
-use std::sync::Wait;
+use std::sync::{Arc, Wait};
 use std::thread::{JoinHandle, Threads};
 
-/// How the threads ended, the receivers and the senders in order, and whether the run went on until it was to end.
+/// How the threads ended, the receivers and the senders in order, with the records of unused seats, and whether the run went on
+/// until it was to end.
 #[derive(Drop)]
 pub(crate) struct ThreadEnds {
     pub(crate) receivers: Vec<ThreadEnd<DoorRecord, FedLog>>,
     pub(crate) senders: Vec<ThreadEnd<OutletRecord, Vec<WriteLog>>>,
+    pub(crate) unused: Vec<DoorRecord>,
     pub(crate) served: Result<(), RelayFault>,
 }
 
@@ -49,25 +52,32 @@ pub(crate) fn end_threads<
         parting,
         logs,
         servers,
+        unused,
+        controls,
         ..
     } = started;
-    let is_last = served.is_ok() && !work.is_followed();
-    // What a run inherited that could not begin is not lost either.
-    let is_handing = work.is_followed() || served.is_err() && work.follows();
+    let is_handing = work.is_handing(served.is_err());
+    let is_last = served.is_ok() && !is_handing;
     let server = end_server(rt, signals, servers, is_handing);
     if is_last {
-        work.close_receivers(rt, alloc);
+        work.close_receivers(rt, alloc, controls.as_slice());
     }
     if is_handing {
         // No port is shut: its receiver ends with the others.
         work.stop_datagrams();
     }
-    let (receivers, are_kept) = end_receivers(rt, alloc, signals, receivers, work);
+    let (receivers, are_kept) = end_receivers(
+        rt,
+        alloc,
+        signals,
+        receivers,
+        controls.as_slice(),
+        work,
+    );
+    drop(controls);
     let served = served_if(are_kept, served);
     if is_last && served.is_ok() {
-        // The senders send what is left, and what is left then is written to files.
         work.drain(rt, alloc);
-        work.spool(rt, alloc);
     }
     signals.stop_senders();
     work.wake_senders();
@@ -84,6 +94,7 @@ pub(crate) fn end_threads<
     ThreadEnds {
         receivers,
         senders,
+        unused,
         served,
     }
 }
@@ -127,15 +138,16 @@ fn end_receivers<R: Threads + Wait + Clock, O, S, A: FirstWork<R, O, S>>(
     alloc: Global,
     signals: &Signals,
     receivers: Vec<JoinHandle<ThreadEnd<DoorRecord, FedLog>>>,
+    controls: &[Arc<ReceiverControl>],
     work: &A,
 ) -> (Vec<ThreadEnd<DoorRecord, FedLog>>, bool) {
     let mut receivers = receivers;
     let last = receivers.pop();
     signals.stop_receivers();
-    work.wake_receivers();
+    wake_receivers(controls);
     let (mut ends, mut are_kept) = join_all(rt, alloc, receivers);
     work.stop_datagrams();
-    work.wake_receivers();
+    wake_receivers(controls);
     if let Some(last) = last {
         are_kept = ends.push(last.join(rt)).is_ok() && are_kept;
     }

@@ -5,11 +5,12 @@ ghost use Rattle.std.specs.Io.KnownBytes.{Appends};
 ghost use Rattle.relay_files.specs.Output.{GrowsByPart};
 ghost use Rattle.relay_run.specs.Running.{Served, opening};
 
+use receivers::ReceiverControl;
 use relay_files::{RelayFault, write_out};
 use std::alloc::Global;
 use std::io::Write;
 use std::rt::Clock;
-use std::sync::Wait;
+use std::sync::{Arc, Wait};
 
 /// What the first thread does while the others run, beside saying that the relay is ready. It does not reach the output.
 pub(crate) trait FirstWork<R: Wait + Clock, O, S> {
@@ -25,28 +26,21 @@ pub(crate) trait FirstWork<R: Wait + Clock, O, S> {
     /// Does what is left to do for the run before, and answers commands until one is `stop`, or until another run is to follow.
     fn serve(&mut self, rt: &R, alloc: Global);
 
-    /// Whether another run follows this one, now that it has served.
-    fn is_followed(&self) -> bool;
-
-    /// Whether a run was before this one.
-    fn follows(&self) -> bool;
+    /// Whether what the threads hold goes on elsewhere, now that it has served: another run follows, or one was before this one,
+    /// which has failed. What a run inherited that could not begin is not lost either.
+    fn is_handing(&self, has_failed: bool) -> bool;
 
     /// Closes the receivers before they are stopped, so that they read what was sent to them.
-    fn close_receivers(&mut self, rt: &R, alloc: Global);
+    fn close_receivers(&mut self, rt: &R, alloc: Global, controls: &[Arc<ReceiverControl>]);
 
     /// Tells the receiver of datagrams to stop, if there is one.
     fn stop_datagrams(&self);
 
-    /// Ends the waits of the receivers, so that they see their stop flags.
-    fn wake_receivers(&self);
-
-    /// Waits, once the receivers have ended, for as long as the senders are to go on, and notes for whom it does not wait.
+    /// Waits, once the receivers have ended, for as long as the senders are to go on, and notes for whom it does not wait. Then, if
+    /// files keep what was not sent, it has the senders write them, and waits until they have.
     fn drain(&mut self, rt: &R, alloc: Global);
 
-    /// Has the senders write to files what they have not sent, if files keep that, and waits until they have.
-    fn spool(&mut self, rt: &R, alloc: Global);
-
-    /// Ends the waits of the senders, so that they see theirs.
+    /// Ends the waits of the senders, so that they see their stop flags.
     fn wake_senders(&self);
 
     /// Keeps what the threads left that watched: that of the log, and that of the status server.

@@ -20,7 +20,7 @@ use std::mem;
 /// The places of the destinations of a run that follows another one: empty lists with room for all. Once they are there,
 /// what is left needs no more memory.
 #[derive(Drop)]
-struct NewPlaces {
+pub(crate) struct NewPlaces {
     slots: DestSlots,
     dests: Vec<DestNotes>,
     earlier: Vec<EarlierCounts>,
@@ -31,19 +31,31 @@ struct NewPlaces {
     parting: Vec<Option<PartingDest>>,
 }
 
-/// What a run begins with that follows this one, at these milliseconds. Refuses if out of memory; what is left is as it was
-/// then.
+/// The places of the destinations of the run that follows this one, at these milliseconds. The line of the log gets what is to be
+/// said of files. Refuses if out of memory; what is left is as it was then.
+pub(crate) fn places_after(
+    alloc: Global,
+    ended: &EndedRun,
+    prepared: &mut NextPlan,
+    process: &Process<'_>,
+    millis: u64,
+) -> Result<NewPlaces, NoMemory> {
+    let NextPlan { line, files, .. } = &mut *prepared;
+    line.push_str(files.news.as_str())?;
+    places_of(alloc, ended, prepared, process, millis)
+}
+
+/// What a run begins with that follows this one, and has these places.
 pub(crate) fn start_after(
     alloc: Global,
     ended: &mut EndedRun,
     prepared: NextPlan,
+    places: NewPlaces,
     first: FirstPorts,
     server: Option<StatusServer>,
     logged: Vec<ReceiverLog>,
     process: &Process<'_>,
-    millis: u64,
-) -> Result<Start, NoMemory> {
-    let places = places_of(alloc, ended, &prepared, process, millis)?;
+) -> Start {
     let NextPlan {
         configuration,
         receivers,
@@ -51,10 +63,9 @@ pub(crate) fn start_after(
         kept,
         returned,
         files,
-        line: mut news,
+        line: news,
         ..
     } = prepared;
-    news.push_str(files.news.as_str())?;
     let mut server = server;
     if let Some(server) = &mut server {
         server.keep_dests(alloc, kept.as_slice());
@@ -67,7 +78,7 @@ pub(crate) fn start_after(
     let stores = kept.len().saturating_add(inherited.gone.dests.len());
     first.keep_for_stores(stores_before, stores);
     let shape = process.shape(configuration.settings(), receivers.len());
-    Ok(Start {
+    Start {
         configuration,
         shape,
         ports: Ports {
@@ -77,7 +88,7 @@ pub(crate) fn start_after(
         },
         blank,
         inherited,
-    })
+    }
 }
 
 /// Room for all that goes to a new place.
@@ -158,50 +169,26 @@ fn inherit(
     logged: Vec<ReceiverLog>,
     news: String,
 ) -> Inherited {
-    let NewPlaces {
-        mut slots,
-        mut dests,
-        mut earlier,
-        mut rests,
-        mut gone,
-        mut parting,
-    } = places;
+    let mut places = places;
     for place in 0..kept.len() {
         let found = match files.get_mut(place) {
             Some(files) => files.take(),
             None => None,
         };
-        let left = left_for(
-            ended,
-            kept[place],
-            returned.get(place).copied().flatten(),
-            found,
-        );
-        let (queued, in_hand) = left.counts();
-        let rest = RestNotes::new();
-        rest.note(queued, in_hand);
-        slots.put(place, left);
-        // These take no memory, since there is room.
-        let _added = (
-            dests.push(events_of(ended, kept[place])),
-            earlier.push(earlier_of(ended, kept[place], queued)),
-            rests.push(rest),
-        );
+        let returned = returned.get(place).copied().flatten();
+        let left = left_for(ended, kept[place], returned, found);
+        places.add(ended, place, kept[place], left);
     }
-    let count = ended.slots.len();
-    for place in 0..parting.len() {
-        let Some(one) = take_at(&mut parting, place) else {
-            continue;
-        };
-        let left = if place < count {
-            ended.slots.take(place)
-        } else {
-            ended.gone.slots.take(place - count)
-        };
-        if !left.is_nothing() {
-            gone.add(one, left);
-        }
-    }
+    places.add_gone(ended);
+    let NewPlaces {
+        slots,
+        dests,
+        earlier,
+        rests,
+        gone,
+        parting,
+    } = places;
+    drop(parting);
     let notes = RunNotes {
         receivers: mem::replace(&mut ended.notes.receivers, Vec::new(alloc)),
         dests,
@@ -215,6 +202,40 @@ fn inherit(
         gone,
         logged,
         news,
+    }
+}
+
+impl NewPlaces {
+    /// The destination of the next place, which was at this one before, if it was, has this left.
+    fn add(&mut self, ended: &mut EndedRun, place: usize, kept: Option<DestId>, left: LeftDest) {
+        let (queued, in_hand) = left.counts();
+        let rest = RestNotes::new();
+        rest.note(queued, in_hand);
+        self.slots.put(place, left);
+        // These take no memory, since there is room.
+        let _added = (
+            self.dests.push(events_of(ended, kept)),
+            self.earlier.push(earlier_of(ended, kept, queued)),
+            self.rests.push(rest),
+        );
+    }
+
+    /// Those destinations are gone of which something is left.
+    fn add_gone(&mut self, ended: &EndedRun) {
+        let count = ended.slots.len();
+        for place in 0..self.parting.len() {
+            let Some(one) = take_at(&mut self.parting, place) else {
+                continue;
+            };
+            let left = if place < count {
+                ended.slots.take(place)
+            } else {
+                ended.gone.slots.take(place - count)
+            };
+            if !left.is_nothing() {
+                self.gone.add(one, left);
+            }
+        }
     }
 }
 

@@ -2,14 +2,14 @@
 
 use crate::end_orders::EndOrders;
 use crate::gone_dests::GoneDests;
-use crate::rest_connector::{RestConnector, SenderRests};
-use crate::sender_lefts::Share;
-use crate::spool_connector::{SenderSpool, SpoolConnector, SpoolSink};
+use crate::rest_connector::RestConnector;
+use crate::sender_places::{SenderPlaces, Share};
+use crate::spool_connector::SpoolConnector;
 use crate::spool_left::spool_left;
 use mio_loops::{SystemTimes, TimeSource};
 use relay_base::DestId;
 use run_state::{GoneEnd, Signals, ThreadWork};
-use senders::{Connect, StoreConnector, StoreStream};
+use senders::{Connect, StoreConnector};
 use spool::SpoolDisk;
 use std::alloc::{AllocError, Global};
 use std::net::Net;
@@ -23,16 +23,15 @@ const MOST_WAIT_MS: u64 = 10;
 /// How many milliseconds the stores have to read to their end once nothing more is sent.
 const LONGEST_END_MS: u64 = 1_000;
 
-/// A sender to destinations that are gone, as long as `--drain` allows: their connector, the places for their files and for
-/// what is left, and since when the milliseconds of a run count.
+/// A sender to destinations that are gone, as long as `--drain` allows: their connector, its places, and since when the
+/// milliseconds of a run count.
 #[derive(Drop)]
 pub(crate) struct PartingJob<'x, R: Wait + SpoolDisk + Drop> {
     pub(crate) gone: &'x GoneDests,
     // Of the run's own destinations: none of these.
     pub(crate) orders: &'x EndOrders,
     pub(crate) connector: StoreConnector<'x, R>,
-    pub(crate) spool: SenderSpool<'x, StoreStream<'x>>,
-    pub(crate) rests: SenderRests<'x, SpoolSink<'x, StoreStream<'x>, R>>,
+    pub(crate) places: SenderPlaces<'x, R>,
     pub(crate) limit: Option<u64>,
     pub(crate) began: Option<Instant>,
 }
@@ -49,8 +48,7 @@ impl<'x, R: Wait + Clock + Net + SpoolDisk + Copy + Drop> ThreadWork<R, ()> for 
             gone,
             orders,
             mut connector,
-            mut spool,
-            mut rests,
+            mut places,
             limit,
             began,
         } = self;
@@ -61,20 +59,37 @@ impl<'x, R: Wait + Clock + Net + SpoolDisk + Copy + Drop> ThreadWork<R, ()> for 
             senders: 1,
         };
         let times = SystemTimes::since(rt, began);
-        share.take_lefts(&mut connector, &mut spool, &mut rests, times.millis());
-        let slots = &gone.slots;
+        places.take_lefts(&share, &mut connector, times.millis());
+        let SenderPlaces { spool, rests } = places;
         let connector = SpoolConnector::new(
-            connector, *rt, spool, slots, signals, orders,
+            connector,
+            *rt,
+            spool,
+            &gone.slots,
+            signals,
+            orders,
         ).without_files();
-        let mut connector = RestConnector::new(alloc, connector, rests, slots, signals, 0, 1);
-        send_until_over(rt, &mut connector, gone, &times, signals);
-        end_connections(rt, &mut connector, &times, signals);
-        connector.end();
-        drop(connector);
+        let connector = RestConnector::new(alloc, connector, rests, share, signals);
+        send_all(rt, connector, gone, &times, signals);
         if !signals.is_handing() {
             spool_all(rt, alloc, gone, limit);
         }
     }
+}
+
+/// Sends to each destination that is gone, and ends the connections.
+fn send_all<R: Wait + Clock, N: Connect + Drop>(
+    rt: &R,
+    connector: N,
+    gone: &GoneDests,
+    times: &SystemTimes<'_, R>,
+    signals: &Signals,
+) {
+    let mut connector = connector;
+    send_until_over(rt, &mut connector, gone, times, signals);
+    end_connections(rt, &mut connector, times, signals);
+    connector.end();
+    drop(connector);
 }
 
 /// Sends to each destination that is gone until it has all, its time is over, or the senders stop.

@@ -5,27 +5,24 @@ ghost use Rattle.relay_run.specs.Running.{is_start_fault};
 
 use crate::closing::output_fault;
 use crate::parting_job::PartingJob;
-use crate::rest_connector::SenderRests;
+use crate::relay_jobs::JobMaker;
 use crate::runtime::RelayRuntime;
-use crate::spool_connector::{SenderSpool, SpoolSink};
-use crate::thread_jobs::JobMaker;
+use crate::sender_places::SenderPlaces;
 use locked_queues::Set;
 use mio_loops::Readiness;
-use relay_base::{NoMemory, put};
 use relay_files::RelayFault;
-use senders::{StoreConnector, StoreStream};
+use senders::StoreConnector;
 
-/// Adds the job of the sender to destinations that are gone, if there are such, which waits with this readiness.
-pub(crate) fn add_parting<'x, B: Set, R: RelayRuntime>(
+/// The job of the sender to destinations that are gone, if there are such, which waits with this readiness.
+pub(crate) fn parting_job<'x, B: Set, R: RelayRuntime>(
     maker: &JobMaker<'x, B, R>,
     readiness: Option<Readiness>,
-    parting: &mut Option<PartingJob<'x, R>>,
-) -> Result<(), RelayFault>
+) -> Result<Option<PartingJob<'x, R>>, RelayFault>
     ensures { IfErr result (λ fault. is_start_fault fault ≡ true) }
 {
     let relay = maker.relay;
     let (Some(readiness), Some(alarm)) = (readiness, relay.gone_gate.alarm(0)) else {
-        return Ok(());
+        return Ok(None);
     };
     let gone = &relay.gone;
     let (rt, alloc) = (*maker.rt, maker.alloc);
@@ -34,41 +31,19 @@ pub(crate) fn add_parting<'x, B: Set, R: RelayRuntime>(
         Ok(connector) => connector,
         Err(fault) => return Err(output_fault(fault)),
     };
-    let Ok((spool, rests)) = places_of(maker) else {
-        drop(connector);
-        return Err(RelayFault::NoMemory);
-    };
-    let job = PartingJob {
-        gone,
-        orders: &relay.orders,
-        connector,
-        spool,
-        rests,
-        limit: relay.file_limit,
-        began: relay.began,
-    };
-    put(parting, Some(job));
-    Ok(())
-}
-
-/// The places for the files of the destinations, and for what is left for them.
-fn places_of<'x, B: Set, R: RelayRuntime>(
-    maker: &JobMaker<'x, B, R>,
-) -> Result<
-    (
-        SenderSpool<'x, StoreStream<'x>>,
-        SenderRests<'x, SpoolSink<'x, StoreStream<'x>, R>>,
-    ),
-    NoMemory,
-> {
-    let gone = &maker.relay.gone;
-    let count = gone.dests.len();
-    let rests = SenderRests::new(maker.alloc, count, gone.rests.as_slice())?;
-    match SenderSpool::new(maker.alloc, count, maker.relay.file_limit, &[]) {
-        Ok(spool) => Ok((spool, rests)),
-        Err(fault) => {
-            drop(rests);
-            Err(fault)
+    let (limit, count) = (relay.file_limit, dests.len());
+    match SenderPlaces::new(alloc, count, limit, &[], count, gone.rests.as_slice()) {
+        Ok(places) => Ok(Some(PartingJob {
+            gone,
+            orders: &relay.orders,
+            connector,
+            places,
+            limit,
+            began: relay.began,
+        })),
+        Err(_) => {
+            drop(connector);
+            Err(RelayFault::NoMemory)
         }
     }
 }

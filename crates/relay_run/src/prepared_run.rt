@@ -74,18 +74,30 @@ pub(crate) fn prepared_by<B: Set, R: SpoolDisk, F: ReloadSource>(
             return Err(refused_for(alloc, fault));
         }
     };
-    match with_room(
-        rt,
-        alloc,
-        relay,
+    let Ok(made) = made_ready(rt, alloc, relay, &configuration, folder) else {
+        drop(configuration);
+        drop(receivers);
+        return Err(RefusedReload::no_memory(alloc));
+    };
+    let MadeReady {
+        places,
+        files,
+        line,
+        blank,
+        room,
+    } = made;
+    let KeptPlaces { kept, returned } = places;
+    let next = NextPlan {
         configuration,
         receivers,
-        folder,
+        blank,
+        kept,
+        returned,
+        files,
+        line,
         connection,
-    ) {
-        Ok(prepared) => Ok(prepared),
-        Err(NoMemory) => Err(RefusedReload::no_memory(alloc)),
-    }
+    };
+    Ok(PreparedRun { next, room })
 }
 
 /// How many destinations a run by a configuration does not have that this one has, or that are gone already.
@@ -106,47 +118,74 @@ fn lacked_by(list: &[Dest], dests: &[Dest]) -> usize {
     count
 }
 
-/// A run by a configuration, with what needs memory before the one that runs ends.
-fn with_room<B: Set, R: SpoolDisk>(
+/// What a run needs that is to follow this one, beside its configuration and its ports, and room for what this one leaves.
+#[derive(Drop)]
+struct MadeReady<B: Set> {
+    places: KeptPlaces,
+    files: SpoolFiles,
+    line: String,
+    blank: BlankTotals,
+    room: EndRoom<B>,
+}
+
+/// By the places of a run's destinations, where each of the next run is among them, and among those that are gone.
+#[derive(Drop)]
+struct KeptPlaces {
+    kept: Vec<Option<DestId>>,
+    returned: Vec<Option<DestId>>,
+}
+
+/// Makes ready what needs memory or descriptors for a run by a configuration.
+fn made_ready<B: Set, R: SpoolDisk>(
     rt: &R,
     alloc: Global,
     relay: &Relay<B>,
-    configuration: RunConfiguration,
-    receivers: Vec<BoundPort>,
+    configuration: &RunConfiguration,
     folder: Option<SpoolFolder<'_>>,
-    connection: u64,
-) -> Result<PreparedRun<B>, NoMemory> {
-    let old = relay.configuration.settings().destinations();
-    let new = configuration.settings().destinations();
-    try_queues(alloc, configuration.settings(), relay.shape.receivers)?;
-    let kept = kept_places(alloc, old, new)?;
-    let returned = kept_places(alloc, relay.gone.dests.as_slice(), new)?;
-    let are_known = known_places(alloc, kept.as_slice(), returned.as_slice())?;
-    let files = open_new_files(rt, alloc, new, are_known.as_slice(), folder)?;
-    drop(are_known);
-    let line = reload_line(alloc, &relay.configuration, &configuration)?;
+) -> Result<MadeReady<B>, NoMemory> {
+    let settings = configuration.settings();
+    try_queues(alloc, settings, relay.shape.receivers)?;
+    let line = reload_line(alloc, &relay.configuration, configuration)?;
+    let places = kept_of(alloc, relay, settings.destinations())?;
+    let blank = BlankTotals::new(alloc)?;
     let room = relay.queues.end_room(alloc)?;
-    let next = NextPlan {
-        blank: BlankTotals::new(alloc)?,
-        configuration,
-        receivers,
-        kept,
-        returned,
+    let files = new_files(rt, alloc, settings.destinations(), &places, folder)?;
+    Ok(MadeReady {
+        places,
         files,
         line,
-        connection,
-    };
-    Ok(PreparedRun { next, room })
+        blank,
+        room,
+    })
+}
+
+/// Where each of these destinations is among those of a relay.
+fn kept_of<B: Set>(alloc: Global, relay: &Relay<B>, new: &[Dest]) -> Result<KeptPlaces, NoMemory> {
+    let old = relay.configuration.settings().destinations();
+    Ok(KeptPlaces {
+        kept: kept_places(alloc, old, new)?,
+        returned: kept_places(alloc, relay.gone.dests.as_slice(), new)?,
+    })
+}
+
+/// Opens the files of those of these destinations that are at no place.
+fn new_files<R: SpoolDisk>(
+    rt: &R,
+    alloc: Global,
+    dests: &[Dest],
+    places: &KeptPlaces,
+    folder: Option<SpoolFolder<'_>>,
+) -> Result<SpoolFiles, NoMemory> {
+    let known = known_places(alloc, places)?;
+    let files = open_new_files(rt, alloc, dests, known.as_slice(), folder);
+    drop(known);
+    files
 }
 
 /// Which destinations the run has, or has as gone.
-fn known_places(
-    alloc: Global,
-    kept: &[Option<DestId>],
-    returned: &[Option<DestId>],
-) -> Result<Vec<bool>, NoMemory> {
+fn known_places(alloc: Global, places: &KeptPlaces) -> Result<Vec<bool>, NoMemory> {
     let mut known = Vec::new(alloc);
-    for (kept, returned) in kept.iter().zip(returned) {
+    for (kept, returned) in places.kept.iter().zip(places.returned.as_slice()) {
         add(&mut known, kept.is_some() || returned.is_some())?;
     }
     Ok(known)

@@ -5,9 +5,10 @@ ghost use Rattle.relay_run.specs.Running.{is_start_fault};
 
 use crate::listeners::BoundPort;
 use crate::receiver_job::{Inlet, ReceiverJob};
+use crate::relay_jobs::JobMaker;
 use crate::runtime::RelayRuntime;
 use crate::shared_listener::Share;
-use crate::thread_jobs::{JobMaker, ThreadJobs};
+use crate::thread_jobs::Receiving;
 use locked_queues::{DoorRecord, DoorSeat, LockedDoor, MOST_RECEIVERS, Set};
 use log_lines::ReceiverNotes;
 use receivers::{HandedStreams, ReceiverControl};
@@ -16,43 +17,72 @@ use relay_files::RelayFault;
 use relay_watchers::ReceiverLog;
 use std::sync::Arc;
 
-/// Adds a receiver for each port, each with its door, and where the events of each receiver are noted. A seat that is left
-/// over is closed unused.
-pub(crate) fn add_receivers<'x, B: Set, R: RelayRuntime, L>(
+/// A receiver for each port, each with its door, and adds where the events of each are noted. A seat that is left over is closed
+/// unused.
+pub(crate) fn receivers_of<'x, B: Set, R: RelayRuntime>(
     maker: &JobMaker<'x, B, R>,
     doors: Vec<DoorSeat<B>>,
     ports: Vec<BoundPort>,
-    made: &mut ThreadJobs<'x, B, R, L>,
+    logs: &mut Vec<ReceiverLog>,
+) -> Result<Receiving<ReceiverJob<'x, B, R>>, RelayFault>
+    ensures { IfErr result (λ fault. is_start_fault fault ≡ true) }
+{
+    let mut receiving = Receiving::none(maker.alloc);
+    match add_seats(maker, doors, ports, &mut receiving, logs) {
+        Ok(()) => Ok(receiving),
+        Err(fault) => {
+            drop(receiving);
+            Err(fault)
+        }
+    }
+}
+
+/// Adds the receivers at these ports, and the records of seats that are left over.
+fn add_seats<'x, B: Set, R: RelayRuntime>(
+    maker: &JobMaker<'x, B, R>,
+    doors: Vec<DoorSeat<B>>,
+    ports: Vec<BoundPort>,
+    receiving: &mut Receiving<ReceiverJob<'x, B, R>>,
     logs: &mut Vec<ReceiverLog>,
 ) -> Result<(), RelayFault>
     ensures { IfErr result (λ fault. is_start_fault fault ≡ true) }
 {
     let mut ports = ports.into_iter();
     for (seat, notes) in doors.into_iter().zip(maker.relay.state.receivers()) {
-        add_seat(maker, seat, ports.next(), notes, made, logs)?;
+        add_seat(maker, seat, ports.next(), notes, receiving, logs)?;
     }
     Ok(())
 }
 
 /// Adds the receiver at a port, if there is one, with the door of a seat; otherwise closes the seat unused.
-fn add_seat<'x, B: Set, R: RelayRuntime, L>(
+fn add_seat<'x, B: Set, R: RelayRuntime>(
     maker: &JobMaker<'x, B, R>,
     seat: DoorSeat<B>,
     port: Option<BoundPort>,
     notes: &Arc<ReceiverNotes>,
-    made: &mut ThreadJobs<'x, B, R, L>,
+    receiving: &mut Receiving<ReceiverJob<'x, B, R>>,
     logs: &mut Vec<ReceiverLog>,
 ) -> Result<(), RelayFault>
     ensures { IfErr result (λ fault. is_start_fault fault ≡ true) }
 {
-    if let Some(port) = port {
-        let receiver = made.jobs.receiving.len();
-        if receiver < MOST_RECEIVERS {
-            return add_receiver(maker, seat, port, receiver, notes, made, logs);
-        }
+    let receiver = receiving.jobs.len();
+    let Some(port) = port else {
+        return Ok(add_unused(maker, seat, &mut receiving.unused)?);
+    };
+    if receiver >= MOST_RECEIVERS {
         drop(port);
+        return Ok(add_unused(maker, seat, &mut receiving.unused)?);
     }
-    Ok(add_unused(maker, seat, &mut made.unused)?)
+    match noted_inlet(maker, port, receiver, notes, logs, &mut receiving.controls) {
+        Ok(inlet) => {
+            let job = receiver_job(maker, inlet, receiver, seat);
+            Ok(add(&mut receiving.jobs, job)?)
+        }
+        Err(fault) => {
+            drop(seat);
+            Err(fault)
+        }
+    }
 }
 
 /// Closes a seat unused, and adds its record.
@@ -63,33 +93,6 @@ fn add_unused<'x, B: Set, R: RelayRuntime>(
 ) -> Result<(), NoMemory> {
     let door = LockedDoor::new(maker.rt, &maker.relay.queues, seat, &maker.relay.gate);
     add(unused, door.close())
-}
-
-/// Adds the receiver of this number at a port, with the door of a seat, where its events are noted, and what closes and wakes
-/// it.
-fn add_receiver<'x, B: Set, R: RelayRuntime, L>(
-    maker: &JobMaker<'x, B, R>,
-    seat: DoorSeat<B>,
-    port: BoundPort,
-    receiver: usize,
-    notes: &Arc<ReceiverNotes>,
-    made: &mut ThreadJobs<'x, B, R, L>,
-    logs: &mut Vec<ReceiverLog>,
-) -> Result<(), RelayFault>
-    requires few { receiver < MOST_RECEIVERS }
-    ensures { IfErr result (λ fault. is_start_fault fault ≡ true) }
-{
-    let ThreadJobs { jobs, controls, .. } = made;
-    match noted_inlet(maker, port, receiver, notes, logs, controls) {
-        Ok(inlet) => {
-            let job = receiver_job(maker, inlet, receiver, seat);
-            Ok(add(&mut jobs.receiving, job)?)
-        }
-        Err(fault) => {
-            drop(seat);
-            Err(fault)
-        }
-    }
 }
 
 /// What receives at a port, and adds where its events are noted, and what closes and wakes its receiver.

@@ -175,6 +175,13 @@ impl<B: Set> Relay<B> {
             .noted(self.configuration.settings().destinations())
     }
 
+    /// From now on the receivers hand their connections over.
+    pub(crate) fn open_streams(&self) {
+        for streams in &self.streams {
+            streams.open();
+        }
+    }
+
     /// What the run has left, for its recorder.
     pub(crate) fn finished<'x>(
         &'x self,

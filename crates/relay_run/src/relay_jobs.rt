@@ -15,9 +15,7 @@ use crate::thread_jobs::{Jobs, all_jobs};
 use locked_queues::Set;
 use relay_base::NoMemory;
 use relay_files::RelayFault;
-use relay_watchers::{
-    LogJob, ReceiverLog, StatusJob, StatusServer, Watched, watchers_of,
-};
+use relay_watchers::{LogJob, ReceiverLog, StatusJob, StatusServer, Watched, watchers_of};
 use std::alloc::Global;
 use std::io::Write;
 

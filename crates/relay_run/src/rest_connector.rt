@@ -7,8 +7,8 @@ ghost use Rattle.dest_writer.specs.declared.counting.Counting.{Counting};
 ghost use Rattle.handover.specs.Rest.{RestState, rest_text};
 
 use crate::dest_list::copy_list;
-use crate::dest_slots::DestSlots;
 use crate::left_dest::socket_of;
+use crate::sender_places::Share;
 use dest_queue::QueuedPoints;
 use dest_writer::GatherBuf;
 use handover::{Rest, RestConnection, RestTurn};
@@ -23,22 +23,14 @@ use std::io::Write;
 #[derive(Drop)]
 pub(crate) struct SenderRests<'n, W> {
     dests: Vec<Option<RestConnection<W>>>,
-    // None if there was never a rest.
+    // None if there is no place.
     gathered: Option<GatherBuf>,
     notes: &'n [RestNotes],
 }
 
 impl<'n, W: Drop> SenderRests<'n, W> {
-    /// No run has ended. It takes no memory.
-    pub(crate) fn none(alloc: Global, notes: &'n [RestNotes]) -> SenderRests<'n, W> {
-        SenderRests {
-            dests: Vec::new(alloc),
-            gathered: None,
-            notes,
-        }
-    }
-
-    /// Places for the rests of so many destinations; where it is noted how much of each is left. Refuses if out of memory.
+    /// Places for the rests of so many destinations; where it is noted how much of each is left. Refuses if out of memory. For
+    /// none it takes no memory.
     pub(crate) fn new(
         alloc: Global,
         dests: usize,
@@ -48,9 +40,14 @@ impl<'n, W: Drop> SenderRests<'n, W> {
         for _ in 0..dests {
             add(&mut none, None)?;
         }
+        let gathered = if dests == 0 {
+            None
+        } else {
+            Some(GatherBuf::new(alloc)?)
+        };
         Ok(SenderRests {
             dests: none,
-            gathered: Some(GatherBuf::new(alloc)?),
+            gathered,
             notes,
         })
     }
@@ -182,33 +179,26 @@ fn send_rest<W: Write + Drop>(
 pub(crate) struct RestConnector<'n, N: Connect> {
     connector: N,
     rests: SenderRests<'n, N::Sink>,
-    slots: &'n DestSlots,
+    share: Share<'n>,
     signals: &'n Signals,
-    // Which of this many senders it is for: one of `n` has each n-th destination.
-    sender: usize,
-    senders: usize,
     alloc: Global,
     ready: [DestId; MOST_DESTINATIONS],
 }
 
 impl<'n, N: Connect> RestConnector<'n, N> {
-    /// Connects through `connector`, behind these rests, for one of this many senders.
+    /// Connects through `connector`, behind these rests, for a sender with this share of the destinations.
     pub(crate) fn new(
         alloc: Global,
         connector: N,
         rests: SenderRests<'n, N::Sink>,
-        slots: &'n DestSlots,
+        share: Share<'n>,
         signals: &'n Signals,
-        sender: usize,
-        senders: usize,
     ) -> RestConnector<'n, N> {
         RestConnector {
             connector,
             rests,
-            slots,
+            share,
             signals,
-            sender,
-            senders,
             alloc,
             ready: [DestId(0); MOST_DESTINATIONS],
         }
@@ -238,7 +228,7 @@ impl<'n, N: Connect> RestConnector<'n, N> {
             Some(sink) => { socket_of(&mut self.connector, self.signals, DestId(place), sink) }
             None => None,
         };
-        self.slots.leave_rest(place, rest, socket);
+        self.share.slots.leave_rest(place, rest, socket);
     }
 }
 
@@ -278,7 +268,7 @@ impl<'n, N: Connect + Drop> Connect for RestConnector<'n, N> {
     /// What the sender had in hand is the beginning of the destination's rest, if the run is followed by another, and the
     /// destination is this sender's and had no rest.
     fn hand_over(&mut self, dest: DestId, left: LeftWriter<N::Sink>) {
-        let is_own = dest.0.checked_rem(self.senders) == Some(self.sender);
+        let is_own = self.share.has(dest.0);
         if !is_own || !self.signals.is_handing() || self.rests.has_rest(dest.0) {
             return;
         }
@@ -293,7 +283,7 @@ impl<'n, N: Connect + Drop> Connect for RestConnector<'n, N> {
             None => None,
         };
         let rest = Rest::new(limit, writer, lent, QueuedPoints::none(self.alloc));
-        self.slots.leave_rest(dest.0, rest, socket);
+        self.share.slots.leave_rest(dest.0, rest, socket);
     }
 
     fn take_back(&mut self, dest: DestId, sink: N::Sink) -> Option<KeptSocket> {

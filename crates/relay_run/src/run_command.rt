@@ -15,15 +15,15 @@ ghost use Rattle.locked_queues.specs.declared.settled.Settled.{Settled};
 ghost use Rattle.locked_queues.specs.declared.settled.SettleFault.{SettleFault};
 ghost use Rattle.relay_files.specs.Files.{AllReadAs};
 ghost use Rattle.relay_run.specs.Closing.{closing_line, closing_status};
-ghost use Rattle.relay_run.specs.Running.{RunEnds, RunFails, RelayFails, ClosesWith, EndsWithStatus, EndsWithFault, opening, ready_line};
-ghost use Rattle.relay_run.specs.RunEnd.{IfStopped, IfFollowed};
+ghost use Rattle.relay_run.specs.Running.{RunEnds, RelayFails, ClosesWith, EndsWithStatus, EndsWithFault, opening, ready_line};
+ghost use Rattle.relay_run.specs.RunEnd.{EndsARun, IfStopped, IfFollowed};
 
 use crate::admin::{FirstState, RunBefore};
 use crate::closing::write_end;
 use crate::ended_run::{EndedRun, ended_of};
 use crate::inherited::Inherited;
 use crate::listeners::FirstPorts;
-use crate::next_start::start_after;
+use crate::next_start::{places_after, start_after};
 use crate::options::RunOptions;
 use crate::prepared_run::{NextPlan, PreparedRun};
 use crate::relay::{NAME, OpenRelay, Parts, Relay};
@@ -187,13 +187,8 @@ fn one_run<R: RelayRuntime, W: Write, L: Write + Send + Drop, K: Recorder + Drop
     recorder: &mut Option<K>,
     files: &F,
 ) -> Result<RunEnd<L>, RelayFault>
-    ensures stopped { IfOk result (λ end. IfStopped end
-        (RunEnds (opening (is_none next.before.waiting)) (W.contents output.old) (W.contents output.new))) }
-    ensures followed { IfOk result (λ end. IfFollowed end (λ following.
-        Appends (W.contents output.old) (W.contents output.new) (opening (is_none next.before.waiting))
-        × (is_none following.before.waiting ≡ false))) }
-    ensures err { IfErr result
-        (RunFails (opening (is_none next.before.waiting)) (W.contents output.old) (W.contents output.new)) }
+    ensures { EndsARun (opening (is_none next.before.waiting))
+        (W.contents output.old) (W.contents output.new) result }
 {
     run_relay::<Brand, R, W, L, K, F>(rt, alloc, next, process, output, recorder, files)
 }
@@ -221,13 +216,8 @@ fn run_relay<
     requires size { next.start.shape.size ≡ B.size }
     requires receivers { next.start.shape.receivers ≡ B.receivers }
     requires senders { next.start.shape.senders ≡ B.senders }
-    ensures stopped { IfOk result (λ end. IfStopped end
-        (RunEnds (opening (is_none next.before.waiting)) (W.contents output.old) (W.contents output.new))) }
-    ensures followed { IfOk result (λ end. IfFollowed end (λ following.
-        Appends (W.contents output.old) (W.contents output.new) (opening (is_none next.before.waiting))
-        × (is_none following.before.waiting ≡ false))) }
-    ensures err { IfErr result
-        (RunFails (opening (is_none next.before.waiting)) (W.contents output.old) (W.contents output.new)) }
+    ensures { EndsARun (opening (is_none next.before.waiting))
+        (W.contents output.old) (W.contents output.new) result }
 {
     let NextRun {
         start,
@@ -381,12 +371,18 @@ fn following<R: Clock, L: Drop>(
         Some(log) => (Some(log.output), log.receivers),
         None => (None, Vec::new(alloc)),
     };
+    let mut next = next;
     let waiting = next.connection;
     let millis = SystemTimes::since(rt, process.began).millis();
-    match start_after(alloc, ended, next, ports, server, logged, process, millis) {
-        Ok(start) => Ok((start, output, waiting)),
+    match places_after(alloc, ended, &mut next, process, millis) {
+        Ok(places) => {
+            let start = start_after(alloc, ended, next, places, ports, server, logged, process);
+            Ok((start, output, waiting))
+        }
         Err(fault) => {
-            drop(output);
+            drop(next);
+            drop((ports, server));
+            drop((output, logged));
             Err(fault)
         }
     }

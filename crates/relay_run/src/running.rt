@@ -7,10 +7,10 @@ ghost use Rattle.relay_run.specs.Running.{IsThreadFault, FailsBeforeClosing, ope
 
 use crate::admin::{AdminPort, FirstState};
 use crate::relay::{Parts, Relay};
+use crate::relay_jobs::jobs_of;
 use crate::reload_source::ReloadSource;
 use crate::runtime::RelayRuntime;
 use crate::start::Process;
-use crate::thread_jobs::{ThreadJobs, jobs_of};
 use crate::thread_records::{Records, records_of};
 use crate::threads::run_all_threads;
 use finished_run::Recorder;
@@ -46,18 +46,12 @@ pub(crate) fn run_until_ended<
     ensures err { IfErr result (FailsBeforeClosing (opening (is_none state.old.before.waiting))
         (W.contents output.old) (W.contents output.new)) }
 {
-    let made = match jobs_of(rt, alloc, relay, parts) {
-        Ok(made) => made,
+    let jobs = match jobs_of(rt, alloc, relay, parts) {
+        Ok(jobs) => jobs,
         Err(fault) => return Err(fault),
     };
-    let ThreadJobs {
-        jobs,
-        unused,
-        controls,
-    } = made;
     let mut work = AdminPort {
         relay,
-        controls: controls.as_slice(),
         state,
         files,
         process,
@@ -65,6 +59,5 @@ pub(crate) fn run_until_ended<
     };
     let ends = run_all_threads(rt, alloc, jobs, relay.state.signals(), &mut work, output);
     drop(work);
-    drop(controls);
-    records_of(alloc, unused, ends)
+    records_of(alloc, ends)
 }

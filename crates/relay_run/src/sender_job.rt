@@ -4,29 +4,27 @@ ghost use Rattle.std.specs.Prelude.{◌≡◌, ◌≤◌};
 
 use crate::counted_connector::CountedConnector;
 use crate::relay::Relay;
-use crate::rest_connector::{RestConnector, SenderRests};
-use crate::sender_lefts::Share;
-use crate::spool_connector::{SenderSpool, SpoolConnector, SpoolSink};
+use crate::rest_connector::RestConnector;
+use crate::sender_places::{SenderPlaces, Share};
+use crate::spool_connector::SpoolConnector;
 use crate::thread_end::ThreadEnd;
 use locked_queues::{Outlet, OutletRecord, Set};
 use mio_loops::{SystemTimes, TimeSource, WriteLog};
 use run_state::{BeginNote, Signals, ThreadWork};
-use senders::{SenderRecord, StoreConnector, StoreStream, WakeGate, send_batches};
+use senders::{SenderRecord, StoreConnector, WakeGate, send_batches};
 use spool::SpoolDisk;
 use std::alloc::{AllocError, Global};
 use std::net::Net;
 use std::rt::Clock;
 use std::sync::Wait;
 
-/// A sender that is to run: the relay that it is of, its number, its connector, the places for the files of its destinations
-/// and for what ended runs left for them, and its outlet.
+/// A sender that is to run: the relay that it is of, its number, its connector, its places, and its outlet.
 #[derive(Drop)]
 pub(crate) struct SenderJob<'x, B: Set, R: Wait + SpoolDisk + Drop> {
     pub(crate) relay: &'x Relay<B>,
     pub(crate) number: usize,
     pub(crate) connector: StoreConnector<'x, R>,
-    pub(crate) spool: SenderSpool<'x, StoreStream<'x>>,
-    pub(crate) rests: SenderRests<'x, SpoolSink<'x, StoreStream<'x>, R>>,
+    pub(crate) places: SenderPlaces<'x, R>,
     pub(crate) outlet: Outlet<'x, 'x, 'x, B, R, WakeGate>,
 }
 
@@ -50,30 +48,30 @@ impl<'x, B: Set, R: Wait + Clock + Net + SpoolDisk + Copy + Drop> ThreadWork<
             relay,
             number,
             mut connector,
-            mut spool,
-            mut rests,
+            mut places,
             outlet,
         } = self;
-        let (dests, limit) = (relay.shape.dests, relay.shape.limit);
-        let senders = relay.shape.senders;
         let times = SystemTimes::since(rt, relay.began);
         let share = Share {
             slots: &relay.slots,
-            dests,
+            dests: relay.shape.dests,
             sender: number,
-            senders,
+            senders: relay.shape.senders,
         };
-        share.take_lefts(&mut connector, &mut spool, &mut rests, times.millis());
-        let (slots, orders) = (&relay.slots, &relay.orders);
-        let connector = SpoolConnector::new(connector, *rt, spool, slots, signals, orders);
-        let connector = RestConnector::new(
-            alloc, connector, rests, slots, signals, number, senders,
-        );
-        let connector = CountedConnector::new(
+        places.take_lefts(&share, &mut connector, times.millis());
+        let SenderPlaces { spool, rests } = places;
+        let connector = SpoolConnector::new(
             connector,
-            relay.state.end(),
-            BeginNote::new(signals),
+            *rt,
+            spool,
+            &relay.slots,
+            signals,
+            &relay.orders,
         );
+        let connector = RestConnector::new(alloc, connector, rests, share, signals);
+        let note = BeginNote::new(signals);
+        let connector = CountedConnector::new(connector, relay.state.end(), note);
+        let (dests, limit) = (relay.shape.dests, relay.shape.limit);
         let stop = signals.senders();
         let SenderRecord {
             outlet,

@@ -1,19 +1,18 @@
-//! The jobs of senders' threads, made of seats, what each waits with, and its files.
+//! The jobs of senders' threads, made of seats, what each waits with, and its places.
 
 ghost use Rattle.std.specs.Prelude.{◌≡◌, ◌≤◌, ◌<◌, true, length, IfErr};
 ghost use Rattle.relay_run.specs.Running.{is_start_fault};
 
 use crate::closing::output_fault;
-use crate::rest_connector::SenderRests;
+use crate::relay_jobs::JobMaker;
 use crate::runtime::RelayRuntime;
 use crate::sender_job::SenderJob;
-use crate::spool_connector::{SenderSpool, SpoolSink};
-use crate::thread_jobs::JobMaker;
+use crate::sender_places::SenderPlaces;
 use locked_queues::{Outlet, OutletSeat, Set};
 use mio_loops::Readiness;
 use relay_base::{NoMemory, add};
 use relay_files::RelayFault;
-use senders::{Alarm, StoreConnector, StoreStream};
+use senders::{Alarm, StoreConnector};
 use std::alloc::Global;
 use std::net::Net;
 
@@ -52,8 +51,26 @@ pub(crate) fn alarms_of(alloc: Global, watches: &[Readiness]) -> Result<Vec<Alar
     Ok(alarms)
 }
 
-/// Adds a sender for each outlet, with its readiness and its alarm.
-pub(crate) fn add_senders<'x, B: Set, R: RelayRuntime>(
+/// A sender for each outlet, with its readiness.
+pub(crate) fn senders_of<'x, B: Set, R: RelayRuntime>(
+    maker: &JobMaker<'x, B, R>,
+    outlets: Vec<OutletSeat<B>>,
+    watches: Vec<Readiness>,
+) -> Result<Vec<SenderJob<'x, B, R>>, RelayFault>
+    ensures { IfErr result (λ fault. is_start_fault fault ≡ true) }
+{
+    let mut jobs = Vec::new(maker.alloc);
+    match add_senders(maker, outlets, watches, &mut jobs) {
+        Ok(()) => Ok(jobs),
+        Err(fault) => {
+            drop(jobs);
+            Err(fault)
+        }
+    }
+}
+
+/// Adds a sender for each outlet, with its readiness.
+fn add_senders<'x, B: Set, R: RelayRuntime>(
     maker: &JobMaker<'x, B, R>,
     outlets: Vec<OutletSeat<B>>,
     watches: Vec<Readiness>,
@@ -61,77 +78,62 @@ pub(crate) fn add_senders<'x, B: Set, R: RelayRuntime>(
 ) -> Result<(), RelayFault>
     ensures { IfErr result (λ fault. is_start_fault fault ≡ true) }
 {
-    let mut waits = watches.into_iter();
+    let mut watches = watches.into_iter();
     for seat in outlets {
-        add_sender(maker, seat, waits.next(), jobs)?;
+        let job = sender_job(maker, seat, watches.next(), jobs.len())?;
+        add(jobs, job)?;
     }
     Ok(())
 }
 
-/// Adds the sender of an outlet, with its readiness and its alarm.
-fn add_sender<'x, B: Set, R: RelayRuntime>(
+/// The sender of this number, with the outlet of a seat, its readiness and its alarm.
+fn sender_job<'x, B: Set, R: RelayRuntime>(
     maker: &JobMaker<'x, B, R>,
     seat: OutletSeat<B>,
     readiness: Option<Readiness>,
-    jobs: &mut Vec<SenderJob<'x, B, R>>,
-) -> Result<(), RelayFault>
+    sender: usize,
+) -> Result<SenderJob<'x, B, R>, RelayFault>
     ensures { IfErr result (λ fault. is_start_fault fault ≡ true) }
 {
-    let sender = jobs.len();
-    match connector_of(maker, readiness, sender) {
-        Ok(connector) => {
-            let Ok((spool, rests)) = places_of(maker) else {
-                drop(seat);
-                drop(connector);
-                return Err(RelayFault::NoMemory);
-            };
-            let relay = maker.relay;
-            let outlet = Outlet::new(maker.rt, &relay.queues, seat, &relay.gate);
-            let job = SenderJob {
-                relay,
-                number: sender,
-                connector,
-                spool,
-                rests,
-                outlet,
-            };
-            Ok(add(jobs, job)?)
-        }
+    let connector = match connector_of(maker, readiness, sender) {
+        Ok(connector) => connector,
         Err(fault) => {
             drop(seat);
-            Err(fault)
+            return Err(fault);
         }
-    }
+    };
+    let Ok(places) = places_of(maker) else {
+        drop(seat);
+        drop(connector);
+        return Err(RelayFault::NoMemory);
+    };
+    let relay = maker.relay;
+    Ok(SenderJob {
+        relay,
+        number: sender,
+        connector,
+        places,
+        outlet: Outlet::new(maker.rt, &relay.queues, seat, &relay.gate),
+    })
 }
 
-/// The places of a sender for the files of its destinations, and for what ended runs left for them.
+/// The places of a sender: for files if files keep what is not sent, and for rests if a run was before.
 fn places_of<'x, B: Set, R: RelayRuntime>(
     maker: &JobMaker<'x, B, R>,
-) -> Result<
-    (
-        SenderSpool<'x, StoreStream<'x>>,
-        SenderRests<'x, SpoolSink<'x, StoreStream<'x>, R>>,
-    ),
-    NoMemory,
-> {
+) -> Result<SenderPlaces<'x, R>, NoMemory> {
     let relay = maker.relay;
-    let state = &relay.state;
-    let count = if relay.shape.is_spooled {
-        relay.shape.dests
-    } else {
-        0
-    };
-    let spool = SenderSpool::new(maker.alloc, count, relay.file_limit, state.spool_notes())?;
-    if relay.is_first {
-        return Ok((spool, SenderRests::none(maker.alloc, state.rests())));
-    }
-    match SenderRests::new(maker.alloc, relay.shape.dests, state.rests()) {
-        Ok(rests) => Ok((spool, rests)),
-        Err(fault) => {
-            drop(spool);
-            Err(fault)
-        }
-    }
+    let dests = relay.shape.dests;
+    let files = if relay.shape.is_spooled { dests } else { 0 };
+    let rests = if relay.is_first { 0 } else { dests };
+    let (file_notes, rest_notes) = (relay.state.spool_notes(), relay.state.rests());
+    SenderPlaces::new(
+        maker.alloc,
+        files,
+        relay.file_limit,
+        file_notes,
+        rests,
+        rest_notes,
+    )
 }
 
 /// The connector of the sender of this number, which notes its events.

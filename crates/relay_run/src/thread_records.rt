@@ -45,11 +45,7 @@ pub(crate) struct RunLeft<O> {
 }
 
 /// What the threads recorded, with the records of unused seats, and the first fault of a thread.
-pub(crate) fn records_of(
-    alloc: Global,
-    unused: Vec<DoorRecord>,
-    ends: ThreadEnds,
-) -> Result<Records, RelayFault>
+pub(crate) fn records_of(alloc: Global, ends: ThreadEnds) -> Result<Records, RelayFault>
     ensures fault { IfOk result (λ records. records.fault
         ≡ thread_fault (map (λ end. end.fault) ends.receivers.items)
         (map (λ end. end.fault) ends.senders.items)) }
@@ -59,6 +55,7 @@ pub(crate) fn records_of(
     let ThreadEnds {
         receivers,
         senders,
+        unused,
         served,
     } = ends;
     served?;

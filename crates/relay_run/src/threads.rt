@@ -7,27 +7,18 @@ ghost use denote.Param.Send.{IsSync, IsSend};
 use crate::ending::{ThreadEnds, end_threads};
 use crate::first_work::{FirstWork, serve_if};
 use crate::thread_end::ThreadEnd;
+use crate::thread_jobs::{Jobs, Receiving};
 use finished_run::FedLog;
 use locked_queues::{DoorRecord, OutletRecord};
 use mio_loops::WriteLog;
+use receivers::ReceiverControl;
 use run_state::{Signals, ThreadWork};
 use std::alloc::Global;
 use std::io::Write;
 use std::rt::Clock;
-use std::sync::Wait;
+use std::sync::{Arc, Wait};
 use std::thread;
 use std::thread::{Builder, JoinHandle, Scope, Threads};
-
-/// The work of a relay's threads: those of its receivers and its senders, that of the sender to destinations that are gone, and
-/// those of the log and of the status server, if any.
-#[derive(Drop)]
-pub(crate) struct Jobs<J, K, G, L, V> {
-    pub(crate) receiving: Vec<J>,
-    pub(crate) sending: Vec<K>,
-    pub(crate) parting: Option<G>,
-    pub(crate) logging: Option<L>,
-    pub(crate) status: Option<V>,
-}
 
 /// The signals between the threads and the first one.
 #[derive(Clone, Copy)]
@@ -35,8 +26,8 @@ struct SignalLink<'s> {
     signals: &'s Signals,
 }
 
-/// The handles of threads that were started, and whether all were. The log's thread leaves an `O`, and the status server's an
-/// `S`.
+/// The handles of threads that were started, and whether all were; the records of unused seats, and what closes and wakes the
+/// receivers. The log's thread leaves an `O`, and the status server's an `S`.
 #[derive(Drop)]
 pub(crate) struct StartedThreads<O, S> {
     pub(crate) receivers: Vec<JoinHandle<ThreadEnd<DoorRecord, FedLog>>>,
@@ -44,6 +35,8 @@ pub(crate) struct StartedThreads<O, S> {
     pub(crate) parting: Vec<JoinHandle<()>>,
     pub(crate) logs: Vec<JoinHandle<O>>,
     pub(crate) servers: Vec<JoinHandle<S>>,
+    pub(crate) unused: Vec<DoorRecord>,
+    pub(crate) controls: Vec<Arc<ReceiverControl>>,
     are_all: bool,
 }
 
@@ -196,20 +189,27 @@ fn start_all<
         sending,
         parting,
         logging,
-        status,
+        serving,
     } = jobs;
+    let Receiving {
+        jobs: receiving,
+        unused,
+        controls,
+    } = receiving;
     let (receivers, are_receivers) = start_each(scope, rt, alloc, receiving, link);
     let (senders, are_senders) = start_each(scope, rt, alloc, sending, link);
     let (parting, is_parting) = start_if(scope, rt, alloc, parting, link);
     let (logs, is_logging) = start_if(scope, rt, alloc, logging, link);
-    let (servers, is_status) = start_if(scope, rt, alloc, status, link);
+    let (servers, is_serving) = start_if(scope, rt, alloc, serving, link);
     StartedThreads {
         receivers,
         senders,
         parting,
         logs,
         servers,
-        are_all: are_receivers && are_senders && is_parting && is_logging && is_status,
+        unused,
+        controls,
+        are_all: are_receivers && are_senders && is_parting && is_logging && is_serving,
     }
 }
 
