@@ -61,6 +61,8 @@ class Pages(PageSuite):
         self.page("docs/REPLAY.md", links=("examples",))
 
     def test_readme(self):
+        if shutil.which("nc") is None:
+            self.skipTest("netcat-openbsd is missing")
         self.page("README.md", ports=("2003", "2004", "2015", "2103", "2203"))
 
     def test_links(self):

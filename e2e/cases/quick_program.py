@@ -56,7 +56,7 @@ class QuickProgram(harness.Suite):
         index out of range ends the program."""
         text, status = self.build(SOURCE)
         begins, built = text.splitlines(keepends=True)  # and no note
-        self.assertEqual((begins, status), (f"bin/small-quick: about four minutes; {NOT_PROVED}", 0))
+        self.assertEqual((begins, status), (f"bin/small-quick: about three minutes; {NOT_PROVED}", 0))
         self.assertRegex(built, rf"^bin/small-quick: built in \d+ s; {NOT_PROVED}")
         self.assertEqual(sorted(os.listdir(os.path.join(self.folder, "bin"))), ["small-quick", "small-quick.stamp"])
         self.assertEqual(os.listdir(os.path.join(self.folder, "crates", "small")), ["src"])
