@@ -36,7 +36,7 @@ mod write_serve;
 
 pub use admit_fault::AdmitFault;
 pub use input_log::{InputLog, MOST_LOG_BYTES, MOST_LOG_ENTRIES};
-pub use left_writer::{LeftTaker, LeftWriter};
+pub use left_writer::{LeftBatch, LeftTaker, LeftWriter};
 pub use log_entry::{LogEntries, LogEntry, LogInput};
 pub use offers::make_offers;
 pub use read_loop::{MOST_CONNECTIONS, ReadLoop};

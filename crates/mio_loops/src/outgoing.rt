@@ -8,7 +8,7 @@ ghost use Rattle.mio_loops.specs.WriteServe.{is_failed};
 ghost use Rattle.mio_loops.specs.WriteAnswers.{is_blocked, is_again};
 ghost use Rattle.queue_records.specs.Takes.{IsHandedBy};
 
-use crate::left_writer::LeftWriter;
+use crate::left_writer::{LeftBatch, LeftWriter};
 use crate::write_log::{WriteLog, WriterEntry};
 use crate::write_serve::{is_failed, serve_connection};
 use dest_queue::Hand;
@@ -124,7 +124,7 @@ impl<W: Write + Drop> Outgoing<W> {
     /// The log of the writer, and what is left of the destination.
     pub(crate) fn into_parts(self) -> (WriteLog, LeftWriter<W>)
         ensures log { result.0 ≡ self.log }
-        ensures writer { result.1.writer.writer ≡ self.writer }
+        ensures writer { result.1.batch.writer.writer ≡ self.writer }
         ensures sink { MatchOption result.1.sink (self.sink ≡ None)
             (λ sink. (held : Counting W) × (self.sink ≡ Some held) × (stream_of held ≡ sink)) }
     {
@@ -140,13 +140,12 @@ impl<W: Write + Drop> Outgoing<W> {
             Some(sink) => Some(sink.into_stream()),
             None => None,
         };
-        let left = LeftWriter {
+        let batch = LeftBatch {
             limit,
             writer,
             lent: hand,
-            sink,
         };
-        (log, left)
+        (log, LeftWriter { batch, sink })
     }
 
     /// Whether the last drive ended after as many writes as one may make, with bytes left.

@@ -91,23 +91,12 @@ impl<'c, 's, N: Connect> Connect for CountedConnector<'c, 's, N> {
     }
 
     fn hand_over(&mut self, dest: DestId, left: LeftWriter<CountedSink<'c, N::Sink>>) {
-        let LeftWriter {
-            limit,
-            writer,
-            lent,
-            sink,
-        } = left;
+        let LeftWriter { batch, sink } = left;
         let sink = match sink {
             Some(sink) => Some(sink.into_sink()),
             None => None,
         };
-        let left = LeftWriter {
-            limit,
-            writer,
-            lent,
-            sink,
-        };
-        self.connector.hand_over(dest, left);
+        self.connector.hand_over(dest, LeftWriter { batch, sink });
     }
 
     fn take_back(&mut self, dest: DestId, sink: CountedSink<'c, N::Sink>) -> Option<KeptSocket> {

@@ -12,7 +12,7 @@ use crate::sender_places::Share;
 use dest_queue::QueuedPoints;
 use dest_writer::GatherBuf;
 use handover::{Rest, RestConnection, RestTurn};
-use mio_loops::{LeftWriter, ReadinessFault};
+use mio_loops::{LeftBatch, LeftWriter, ReadinessFault};
 use relay_base::{DestId, MOST_DESTINATIONS, NoMemory, add};
 use run_state::{RestNotes, Signals};
 use senders::{Connect, KeptSocket};
@@ -272,16 +272,16 @@ impl<'n, N: Connect + Drop> Connect for RestConnector<'n, N> {
         if !is_own || !self.signals.is_handing() || self.rests.has_rest(dest.0) {
             return;
         }
-        let LeftWriter {
-            limit,
-            writer,
-            lent,
-            sink,
-        } = left;
+        let LeftWriter { batch, sink } = left;
         let socket = match sink {
             Some(sink) => self.connector.take_back(dest, sink),
             None => None,
         };
+        let LeftBatch {
+            limit,
+            writer,
+            lent,
+        } = batch;
         let rest = Rest::new(limit, writer, lent, QueuedPoints::none(self.alloc));
         self.share.slots.leave_rest(dest.0, rest, socket);
     }
