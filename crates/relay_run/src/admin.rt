@@ -7,10 +7,9 @@ use crate::end_waits::{DrainWait, EndWait, FilesWait};
 use crate::ended_run::EndedRecord;
 use crate::first_work::FirstWork;
 use crate::listeners::FirstPorts;
-use crate::prepared_run::{PreparedRun, prepared_by};
+use crate::prepared_run::{NextSource, PreparedRun, prepared_by};
 use crate::relay::Relay;
 use crate::reload_source::{RefusedReload, ReloadSource};
-use crate::spool_folder::SpoolFolder;
 use crate::start::Process;
 use admin_port::{AdminListener, Answers, AskedReload};
 use admin_report::report;
@@ -148,8 +147,7 @@ fn answer_until_ended<B: Set, R: Wait + Clock + Net + SpoolDisk, F: ReloadSource
     alloc: Global,
     relay: &Relay<B>,
     ports: &mut FirstPorts,
-    files: &F,
-    folder: Option<SpoolFolder<'_>>,
+    source: NextSource<'_, F>,
 ) -> Option<PreparedRun<B>> {
     let watched = ReportSource::new(relay);
     let times = SystemTimes::since(rt, relay.began);
@@ -158,7 +156,7 @@ fn answer_until_ended<B: Set, R: Wait + Clock + Net + SpoolDisk, F: ReloadSource
         if ports.admin.take_turn(rt, alloc, &watched, millis, PAUSE_MS) {
             return None;
         }
-        let next = next_run(rt, alloc, relay, ports, files, folder, millis);
+        let next = next_run(rt, alloc, relay, ports, &source, millis);
         if next.is_some() {
             return next;
         }
@@ -172,8 +170,7 @@ fn next_run<B: Set, R: SpoolDisk, F: ReloadSource>(
     alloc: Global,
     relay: &Relay<B>,
     ports: &mut FirstPorts,
-    files: &F,
-    folder: Option<SpoolFolder<'_>>,
+    source: &NextSource<'_, F>,
     millis: u64,
 ) -> Option<PreparedRun<B>> {
     let AskedReload {
@@ -185,8 +182,7 @@ fn next_run<B: Set, R: SpoolDisk, F: ReloadSource>(
         alloc,
         relay,
         ports,
-        files,
-        folder,
+        source,
         request.as_slice(),
         connection,
     );
@@ -237,11 +233,11 @@ impl<B: Set, R: Wait + Clock + Net + SpoolDisk, L: Drop, F: ReloadSource, K: Rec
         } = &mut *self.state;
         answer_reloaded(rt, relay, ports, before);
         end_before(rt, alloc, relay, before, self.recorder);
-        let folder = self.process.folder;
-        put(
-            next,
-            answer_until_ended(rt, alloc, relay, ports, self.files, folder),
-        );
+        let source = NextSource {
+            files: self.files,
+            folder: self.process.folder,
+        };
+        put(next, answer_until_ended(rt, alloc, relay, ports, source));
         if next.is_some() {
             relay.open_streams();
         }

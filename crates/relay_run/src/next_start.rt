@@ -6,7 +6,8 @@ use crate::gone_dests::{GoneDests, PartingDest};
 use crate::inherited::Inherited;
 use crate::left_dest::LeftDest;
 use crate::listeners::{FirstPorts, Ports};
-use crate::prepared_run::NextPlan;
+use crate::prepared_run::{KeptPlaces, NextPlan};
+use crate::shape::shape_of;
 use crate::start::{Process, Start};
 use conf_text::Dest;
 use dest_queue::EarlierCounts;
@@ -60,8 +61,7 @@ pub(crate) fn start_after(
         configuration,
         receivers,
         blank,
-        kept,
-        returned,
+        places: KeptPlaces { kept, returned },
         files,
         line: news,
         ..
@@ -77,7 +77,7 @@ pub(crate) fn start_after(
     );
     let stores = kept.len().saturating_add(inherited.gone.dests.len());
     first.keep_for_stores(stores_before, stores);
-    let shape = process.shape(configuration.settings(), receivers.len());
+    let shape = shape_of(configuration.settings(), receivers.len(), process);
     Start {
         configuration,
         shape,
@@ -99,7 +99,7 @@ fn places_of(
     process: &Process<'_>,
     millis: u64,
 ) -> Result<NewPlaces, NoMemory> {
-    let count = prepared.kept.len();
+    let count = prepared.places.kept.len();
     let parting = parting_of(alloc, ended, prepared, process, millis)?;
     Ok(NewPlaces {
         slots: DestSlots::new(alloc, count)?,
@@ -123,12 +123,18 @@ fn parting_of(
     let mut parting = Vec::new(alloc);
     let until = millis.saturating_add(process.options.drain().saturating_mul(1_000));
     let old = ended.record.configuration.settings().destinations();
-    add_parting(&mut parting, old, prepared.kept.as_slice(), &[], until)?;
+    add_parting(
+        &mut parting,
+        old,
+        prepared.places.kept.as_slice(),
+        &[],
+        until,
+    )?;
     let gone = &ended.gone;
     add_parting(
         &mut parting,
         gone.dests.as_slice(),
-        prepared.returned.as_slice(),
+        prepared.places.returned.as_slice(),
         gone.until.as_slice(),
         0,
     )?;

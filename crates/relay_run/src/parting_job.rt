@@ -62,12 +62,7 @@ impl<'x, R: Wait + Clock + Net + SpoolDisk + Copy + Drop> ThreadWork<R, ()> for 
         places.take_lefts(&share, &mut connector, times.millis());
         let SenderPlaces { spool, rests } = places;
         let connector = SpoolConnector::new(
-            connector,
-            *rt,
-            spool,
-            &gone.slots,
-            signals,
-            orders,
+            connector, *rt, spool, &share, signals, orders,
         ).without_files();
         let connector = RestConnector::new(alloc, connector, rests, share, signals);
         send_all(rt, connector, gone, &times, signals);

@@ -32,11 +32,17 @@ pub(crate) struct NextPlan {
     pub(crate) configuration: RunConfiguration,
     pub(crate) receivers: Vec<BoundPort>,
     pub(crate) blank: BlankTotals,
-    pub(crate) kept: Vec<Option<DestId>>,
-    pub(crate) returned: Vec<Option<DestId>>,
+    pub(crate) places: KeptPlaces,
     pub(crate) files: SpoolFiles,
     pub(crate) line: String,
     pub(crate) connection: u64,
+}
+
+/// Where the next run comes from: who reads the files that a request names, and the folder of the spool, if there is one.
+#[derive(Drop)]
+pub(crate) struct NextSource<'s, F> {
+    pub(crate) files: &'s F,
+    pub(crate) folder: Option<SpoolFolder<'s>>,
 }
 
 /// Reads the files that a request names, and makes ready what a run by them needs before the one that runs ends. Refuses a
@@ -46,12 +52,11 @@ pub(crate) fn prepared_by<B: Set, R: SpoolDisk, F: ReloadSource>(
     alloc: Global,
     relay: &Relay<B>,
     ports: &FirstPorts,
-    files: &F,
-    folder: Option<SpoolFolder<'_>>,
+    source: &NextSource<'_, F>,
     request: &[u8],
     connection: u64,
 ) -> Result<PreparedRun<B>, RefusedReload> {
-    let configuration = files.read(alloc, request)?;
+    let configuration = source.files.read(alloc, request)?;
     if let Some(setting) = first_fixed_change(
         relay.configuration.settings(),
         configuration.settings(),
@@ -74,7 +79,7 @@ pub(crate) fn prepared_by<B: Set, R: SpoolDisk, F: ReloadSource>(
             return Err(refused_for(alloc, fault));
         }
     };
-    let Ok(made) = made_ready(rt, alloc, relay, &configuration, folder) else {
+    let Ok(made) = made_ready(rt, alloc, relay, &configuration, source.folder) else {
         drop(configuration);
         drop(receivers);
         return Err(RefusedReload::no_memory(alloc));
@@ -86,13 +91,11 @@ pub(crate) fn prepared_by<B: Set, R: SpoolDisk, F: ReloadSource>(
         blank,
         room,
     } = made;
-    let KeptPlaces { kept, returned } = places;
     let next = NextPlan {
         configuration,
         receivers,
         blank,
-        kept,
-        returned,
+        places,
         files,
         line,
         connection,
@@ -130,9 +133,9 @@ struct MadeReady<B: Set> {
 
 /// By the places of a run's destinations, where each of the next run is among them, and among those that are gone.
 #[derive(Drop)]
-struct KeptPlaces {
-    kept: Vec<Option<DestId>>,
-    returned: Vec<Option<DestId>>,
+pub(crate) struct KeptPlaces {
+    pub(crate) kept: Vec<Option<DestId>>,
+    pub(crate) returned: Vec<Option<DestId>>,
 }
 
 /// Makes ready what needs memory or descriptors for a run by a configuration.

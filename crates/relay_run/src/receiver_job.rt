@@ -173,55 +173,24 @@ fn listen_fault(role: ListenRole, fault: ReadinessFault) -> RelayFault
     }
 }
 
-/// A receiver that is to run: the source of its datapoints, the configuration that routes them, and its
-/// door. Its thread makes the plan: a plan stays in one thread.
+/// A receiver that is to run: the source of its datapoints, its number, the configuration that routes them, and its
+/// door, which has all of its destinations. Its thread makes the plan: a plan stays in one thread.
 #[derive(Drop)]
 pub(crate) struct ReceiverJob<'d, B: Set, R: Wait> {
-    inlet: Inlet,
-    receiver: usize,
-    configuration: &'d RunConfiguration,
-    door: LockedDoor<'d, B, R, WakeGate>,
-    share: Share<'d>,
-    orders: &'d EndOrders,
-    is_recorded: bool,
-    began: Option<Instant>,
+    // It may be shared with other receivers.
+    pub(crate) inlet: Inlet,
+    pub(crate) receiver: usize,
+    pub(crate) configuration: &'d RunConfiguration,
+    pub(crate) door: LockedDoor<'d, B, R, WakeGate>,
+    pub(crate) share: Share<'d>,
+    // They say when a receiver of datagrams stops.
+    pub(crate) orders: &'d EndOrders,
+    // Whether its thread returns what its readers were fed, or drops it at its end.
+    pub(crate) is_recorded: bool,
+    pub(crate) began: Option<Instant>,
     ghost few: { receiver < 8 },
     ghost dests: { length configuration.now.settings.routing.destinations
         ≤ length door.made.totals },
-}
-
-impl<'d, B: Set, R: Wait> ReceiverJob<'d, B, R> {
-    /// The receiver of a number. The door has all destinations of the configuration. Its listener may be shared, and if it
-    /// receives datagrams, these orders say when it stops.
-    pub(crate) fn new(
-        inlet: Inlet,
-        receiver: usize,
-        configuration: &'d RunConfiguration,
-        door: LockedDoor<'d, B, R, WakeGate>,
-        share: Share<'d>,
-        orders: &'d EndOrders,
-        began: Option<Instant>,
-    ) -> ReceiverJob<'d, B, R>
-        requires few { receiver < MOST_RECEIVERS }
-        requires dests { length configuration.now.settings.routing.destinations
-            ≤ length door.made.totals }
-    {
-        ReceiverJob {
-            inlet,
-            receiver,
-            configuration,
-            door,
-            share,
-            orders,
-            is_recorded: false,
-            began,
-        }
-    }
-
-    /// From now on its thread returns what its readers were fed, or drops it at its end.
-    pub(crate) fn set_recorded(&mut self, is_recorded: bool) {
-        self.is_recorded = is_recorded;
-    }
 }
 
 impl<'d, B: Set, R: Wait + Clock> ThreadWork<R, ThreadEnd<DoorRecord, FedLog>>

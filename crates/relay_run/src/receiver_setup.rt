@@ -149,15 +149,14 @@ fn receiver_job<'x, B: Set, R: RelayRuntime>(
         held: relay.state.held(),
         own: receiver,
     };
-    let mut job = ReceiverJob::new(
+    ReceiverJob {
         inlet,
         receiver,
-        &relay.configuration,
+        configuration: &relay.configuration,
         door,
         share,
-        &relay.orders,
-        relay.began,
-    );
-    job.set_recorded(relay.shape.is_recorded);
-    job
+        orders: &relay.orders,
+        is_recorded: relay.shape.is_recorded,
+        began: relay.began,
+    }
 }

@@ -67,18 +67,24 @@ pub(crate) struct OpenRelay<B: Set, L> {
 }
 
 /// What the threads of a run are given, each its part: the seats at the queues, the ports of receivers, what each sender
-/// waits with, and what that to destinations that are gone does, the status server, if there is one, the output of the log, if
-/// there is to be one, with its first lines, and what it has reported of receivers.
+/// waits with, and what that to destinations that are gone does, and what those get that watch the others.
 #[derive(Drop)]
 pub(crate) struct Parts<B: Set, L> {
     pub(crate) seats: Seats<B>,
     pub(crate) receivers: Vec<BoundPort>,
     pub(crate) watches: Vec<Readiness>,
     pub(crate) gone_watch: Option<Readiness>,
-    pub(crate) status: Option<StatusServer>,
+    pub(crate) watching: Watching<L>,
+}
+
+/// What those get that watch the other threads: the output of the log, if there is to be one, with its first lines, and what it
+/// has reported of receivers; and the status server, if there is one.
+#[derive(Drop)]
+pub(crate) struct Watching<L> {
     pub(crate) log: Option<L>,
     pub(crate) news: String,
     pub(crate) logged: Vec<ReceiverLog>,
+    pub(crate) status: Option<StatusServer>,
 }
 
 /// The seats of doors and of outlets.
@@ -267,10 +273,12 @@ fn open_relay<B: Set, L: Drop>(
             receivers,
             watches,
             gone_watch,
-            status,
-            log,
-            news,
-            logged,
+            watching: Watching {
+                log,
+                news,
+                logged,
+                status,
+            },
         },
         ports: first,
     }

@@ -7,7 +7,7 @@ use crate::parting_job::PartingJob;
 use crate::parting_setup::parting_job;
 use crate::receiver_job::ReceiverJob;
 use crate::receiver_setup::receivers_of;
-use crate::relay::{Parts, Relay, Seats};
+use crate::relay::{Parts, Relay, Seats, Watching};
 use crate::runtime::RelayRuntime;
 use crate::sender_job::SenderJob;
 use crate::sender_setup::senders_of;
@@ -15,7 +15,7 @@ use crate::thread_jobs::{Jobs, all_jobs};
 use locked_queues::Set;
 use relay_base::NoMemory;
 use relay_files::RelayFault;
-use relay_watchers::{LogJob, ReceiverLog, StatusJob, StatusServer, Watched, watchers_of};
+use relay_watchers::{LogJob, ReceiverLog, StatusJob, Watched, watchers_of};
 use std::alloc::Global;
 use std::io::Write;
 
@@ -50,19 +50,15 @@ pub(crate) fn jobs_of<'x, B: Set, R: RelayRuntime, L: Write + Drop>(
         receivers,
         watches,
         gone_watch,
-        status,
-        log,
-        news,
-        logged,
+        watching,
     } = parts;
     let Seats { doors, outlets } = seats;
     let maker = JobMaker { rt, alloc, relay };
     let mut logs = Vec::new(alloc);
     let receiving = receivers_of(&maker, doors, receivers, &mut logs);
-    resume_logs(&mut logs, logged);
     let sending = senders_of(&maker, outlets, watches);
     let parting = parting_job(&maker, gone_watch);
-    let watching = watching_of(&maker, logs, news, log, status);
+    let watching = watching_of(&maker, logs, watching);
     all_jobs(receiving, sending, parting, watching)
 }
 
@@ -73,14 +69,20 @@ fn resume_logs(logs: &mut Vec<ReceiverLog>, earlier: Vec<ReceiverLog>) {
     }
 }
 
-/// The jobs of the log and of the status server, if there is an output and a server for them; the log begins with these news.
+/// The jobs of the log and of the status server, if there is an output and a server for them.
 fn watching_of<'x, B: Set, R, L: Write + Drop>(
     maker: &JobMaker<'x, B, R>,
     logs: Vec<ReceiverLog>,
-    news: String,
-    log: Option<L>,
-    server: Option<StatusServer>,
+    watching: Watching<L>,
 ) -> Result<(Option<LogJob<'x, B, L>>, Option<StatusJob<'x, B>>), NoMemory> {
+    let Watching {
+        log,
+        news,
+        logged,
+        status,
+    } = watching;
+    let mut logs = logs;
+    resume_logs(&mut logs, logged);
     let relay = maker.relay;
     let watched = Watched {
         queues: &relay.queues,
@@ -92,5 +94,5 @@ fn watching_of<'x, B: Set, R, L: Write + Drop>(
         configuration: relay.configuration.sum(),
         began: relay.began,
     };
-    watchers_of(maker.alloc, &watched, logs, news, log, server)
+    watchers_of(maker.alloc, &watched, logs, news, log, status)
 }

@@ -44,18 +44,7 @@ pub trait RelayRuntime: Threads
 
 impl<R> RelayRuntime for R
 where
-    R: Threads
-        + Wait
-        + Clock
-        + Net<Listener = TcpListener, Stream = TcpStream>
-        + Resolve
-        + SystemFacts
-        + SystemTables
-        + SpoolDisk
-        + RandomSource
-        + Copy
-        + Send
-        + Sync
-        + Drop
-        + 'static,
+    R: Threads + Wait + Clock + Resolve + SystemFacts + SystemTables + SpoolDisk + RandomSource,
+    R: Net<Listener = TcpListener, Stream = TcpStream>,
+    R: Copy + Send + Sync + Drop + 'static,
 {}

@@ -60,14 +60,7 @@ impl<'x, B: Set, R: Wait + Clock + Net + SpoolDisk + Copy + Drop> ThreadWork<
         };
         places.take_lefts(&share, &mut connector, times.millis());
         let SenderPlaces { spool, rests } = places;
-        let connector = SpoolConnector::new(
-            connector,
-            *rt,
-            spool,
-            &relay.slots,
-            signals,
-            &relay.orders,
-        );
+        let connector = SpoolConnector::new(connector, *rt, spool, &share, signals, &relay.orders);
         let connector = RestConnector::new(alloc, connector, rests, share, signals);
         let note = BeginNote::new(signals);
         let connector = CountedConnector::new(connector, relay.state.end(), note);

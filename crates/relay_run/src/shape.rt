@@ -2,7 +2,8 @@
 
 ghost use Rattle.std.specs.Prelude.{◌≡◌, ◌≤◌, length};
 
-use crate::options::{RunOptions, StatusOptions};
+use crate::options::StatusOptions;
+use crate::start::Process;
 use conf_text::Settings;
 use finished_run::RunShape;
 use locked_queues::{MOST_RECEIVERS, MOST_SENDERS};
@@ -51,15 +52,9 @@ impl Shape {
     }
 }
 
-/// The shape of a run of settings, with this number of ports at which receivers listen. If there is none, one receiver
-/// has a seat all the same, which is closed unused.
-pub(crate) fn shape_of(
-    settings: &Settings,
-    ports: usize,
-    options: RunOptions,
-    is_recorded: bool,
-    is_spooled: bool,
-) -> Shape
+/// The shape of a process's run of settings, with this number of ports at which receivers listen. If there is none, one
+/// receiver has a seat all the same, which is closed unused.
+pub(crate) fn shape_of(settings: &Settings, ports: usize, process: &Process<'_>) -> Shape
     ensures dests { (result.dests ≡ length settings.now.routing.destinations)
         × (1 ≤ result.dests) × (result.dests ≤ MOST_DESTINATIONS) }
     ensures size { (1 ≤ result.size) × (result.size ≤ LARGEST_QUEUE_SIZE) }
@@ -67,6 +62,7 @@ pub(crate) fn shape_of(
     ensures receivers { (1 ≤ result.receivers) × (result.receivers ≤ MOST_RECEIVERS) }
     ensures senders { (1 ≤ result.senders) × (result.senders ≤ MOST_SENDERS) }
 {
+    let options = process.options;
     Shape {
         dests: settings.destinations().len(),
         size: settings.max_queue_size(),
@@ -77,7 +73,7 @@ pub(crate) fn shape_of(
         drain_seconds: options.drain(),
         idle_seconds: options.idle(),
         status: options.status(),
-        is_recorded,
-        is_spooled,
+        is_recorded: process.is_recorded,
+        is_spooled: process.folder.is_some(),
     }
 }

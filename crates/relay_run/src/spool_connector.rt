@@ -6,6 +6,7 @@ use crate::dest_list::copy_list;
 use crate::dest_slots::DestSlots;
 use crate::end_orders::EndOrders;
 use crate::left_dest::socket_of;
+use crate::sender_places::Share;
 use mio_loops::ReadinessFault;
 use relay_base::{DestId, MOST_DESTINATIONS, NoMemory, add};
 use run_state::Signals;
@@ -120,12 +121,12 @@ pub(crate) struct SpoolConnector<'n, 's, N: Connect, D> {
 }
 
 impl<'n, 's, N: Connect, D: SpoolDisk + Copy + Drop> SpoolConnector<'n, 's, N, D> {
-    /// Connects through `connector`, and reaches the files by `disk`.
+    /// Connects through `connector` to a sender's share, and reaches the files by `disk`.
     pub(crate) fn new(
         connector: N,
         disk: D,
         spool: SenderSpool<'n, N::Sink>,
-        slots: &'n DestSlots,
+        share: &Share<'n>,
         signals: &'s Signals,
         orders: &'s EndOrders,
     ) -> SpoolConnector<'n, 's, N, D> {
@@ -133,7 +134,7 @@ impl<'n, 's, N: Connect, D: SpoolDisk + Copy + Drop> SpoolConnector<'n, 's, N, D
             connector,
             disk,
             spool,
-            slots,
+            slots: share.slots,
             signals,
             orders,
             may_spool: true,

@@ -10,8 +10,8 @@ use crate::runtime::RelayRuntime;
 use crate::shape::{Shape, shape_of};
 use crate::spool_folder::{SpoolFolder, open_files};
 use conf_text::Settings;
-use locked_queues::{BlankTotals, MOST_RECEIVERS, MOST_SENDERS};
-use relay_base::{LARGEST_MESSAGE, LARGEST_QUEUE_SIZE, MOST_DESTINATIONS, NoMemory};
+use locked_queues::BlankTotals;
+use relay_base::NoMemory;
 use relay_files::{RelayFault, RunConfiguration};
 use std::alloc::Global;
 use std::time::Instant;
@@ -44,19 +44,6 @@ pub(crate) struct Process<'a> {
 }
 
 impl Process<'_> {
-    /// The numbers of a run of these settings with this many ports at which receivers listen.
-    pub(crate) fn shape(&self, settings: &Settings, ports: usize) -> Shape
-        ensures dests { (result.dests ≡ length settings.now.routing.destinations)
-            × (1 ≤ result.dests) × (result.dests ≤ MOST_DESTINATIONS) }
-        ensures size { (1 ≤ result.size) × (result.size ≤ LARGEST_QUEUE_SIZE) }
-        ensures limit { (1 ≤ result.limit) × (result.limit ≤ LARGEST_MESSAGE) }
-        ensures receivers { (1 ≤ result.receivers) × (result.receivers ≤ MOST_RECEIVERS) }
-        ensures senders { (1 ≤ result.senders) × (result.senders ≤ MOST_SENDERS) }
-    {
-        let is_spooled = self.folder.is_some();
-        shape_of(settings, ports, self.options, self.is_recorded, is_spooled)
-    }
-
     /// The system's limit for the size of a file, in bytes, if there is one.
     pub(crate) fn file_limit(&self) -> Option<u64> {
         match self.folder {
@@ -85,7 +72,7 @@ impl Start {
                 return Err(fault);
             }
         };
-        let shape = process.shape(settings, ports.receivers.len());
+        let shape = shape_of(settings, ports.receivers.len(), process);
         match begin_with(rt, alloc, settings, &shape, process) {
             Ok((inherited, blank)) => Ok(Start {
                 configuration,

@@ -35,37 +35,16 @@ const SUM_BYTES: usize = 6;
 /// of the program, and the checksum of its configuration.
 #[derive(Drop)]
 pub(crate) struct StatusWatch<'x, B: Set> {
-    queues: &'x Queues<B>,
-    noted: DestSources<'x>,
-    size: usize,
-    receivers: Vec<WatchedReceiver>,
-    version: &'static str,
-    configuration: [u8; DIGEST_LEN],
+    pub(crate) queues: &'x Queues<B>,
+    pub(crate) noted: DestSources<'x>,
+    pub(crate) size: usize,
+    pub(crate) receivers: Vec<WatchedReceiver>,
+    pub(crate) version: &'static str,
+    pub(crate) configuration: [u8; DIGEST_LEN],
     ghost all: { length noted.dests.now ≡ B.dests },
 }
 
 impl<'x, B: Set> StatusWatch<'x, B> {
-    /// The status of these.
-    pub(crate) fn new(
-        queues: &'x Queues<B>,
-        noted: DestSources<'x>,
-        size: usize,
-        receivers: Vec<WatchedReceiver>,
-        version: &'static str,
-        configuration: [u8; DIGEST_LEN],
-    ) -> StatusWatch<'x, B>
-        requires all { length noted.dests.now ≡ B.dests }
-    {
-        StatusWatch {
-            queues,
-            noted,
-            size,
-            receivers,
-            version,
-            configuration,
-        }
-    }
-
     /// What the queues of a destination, which exists, have counted in all runs.
     fn counts_at<R: Wait>(&self, rt: &R, place: usize) -> Counts
         requires place { place < length self.now.noted.dests.now }

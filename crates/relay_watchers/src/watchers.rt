@@ -63,13 +63,13 @@ pub fn watchers_of<'x, B: Set, L: Write + Drop>(
         log,
         watched.began,
     )?;
-    let watch = StatusWatch::new(
-        watched.queues,
-        watched.noted,
-        watched.size,
-        shown,
-        watched.version,
-        watched.configuration,
-    );
+    let watch = StatusWatch {
+        queues: watched.queues,
+        noted: watched.noted,
+        size: watched.size,
+        receivers: shown,
+        version: watched.version,
+        configuration: watched.configuration,
+    };
     Ok((logging, status_at(server, watch, watched.began)))
 }
