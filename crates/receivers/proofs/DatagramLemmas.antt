@@ -10,6 +10,7 @@ use Rattle.reader_core.specs.declared.kind.ReaderKind.TheVariants.{Datagram}
 use Rattle.queue_records.specs.Offers.{OffersMade}
 use Rattle.mio_loops.specs.Reading.{AreMadeOrRefused, GoesOn, ReaderProgress}
 use Rattle.mio_loops.proofs.ReadingLemmas.{went-none, went-then}
+use Rattle.mio_loops.proofs.ServingLemmas.{waits-among}
 use Rattle.receivers.specs.Datagrams.{ReadsDatagrams, IsReady, DatagramsProgress, is_at}
 use Rattle.receivers.specs.Record.{have_moments}
 use Rattle.receivers.specs.declared.datagram_loop.DatagramLoop.{DatagramLoop}
@@ -53,6 +54,15 @@ datagrams-went refuses may_give plan left entries made x y a b ready went report
       plan_left = is;
       ready = subst (λ (p : Plan). IsReady p y b) (sym is) (record { datagrams = reads; dests = dests });
     }
+
+-- offers that waited were made, and nothing was received
+pub datagrams-offered : (refuses : ℕ → ℕ → Datapoint → Type 0) (may_give : ℕ → Bool) (plan : Plan) (count : ℕ) (made : List Dispatch) (x y : DatagramLoop) (a b : OffersMade)
+    → IsReady plan x a → ReaderProgress plan x.number [] made x.reader y.reader a b x.log y.log
+    → y.number ≡ x.number → count ≡ plan.destinations → count ≤ length b.totals
+    → AreMadeOrRefused (refuses x.number) count y.reader.waiting → DatagramsProgress refuses may_give plan plan x y a b
+datagrams-offered refuses may_give plan count made x y a b ready went number is dests waits =
+    datagrams-went refuses may_give plan plan [] made x y a b ready went refl number refl
+    (subst (λ (n : ℕ). n ≤ length b.totals) is dests) (waits-among (refuses x.number) count plan.destinations y.reader.waiting is waits)
 
 -- and then more
 pub datagrams-then : (refuses : ℕ → ℕ → Datapoint → Type 0) (may_give : ℕ → Bool) (plan mid left : Plan) (x y z : DatagramLoop) (a b c : OffersMade)

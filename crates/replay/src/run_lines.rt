@@ -1,7 +1,7 @@
 //! The lines that a replay writes.
 ghost use Rattle.std.specs.Prelude.{◌≡◌, ◌++◌, ◌∷◌, [], true, OnOk};
 ghost use Rattle.std.specs.String.{string_bytes};
-ghost use Rattle.replay.specs.RunText.{not_now_line, digits_line, text_head, head_if, newline_unless, text_lines, handed_line, count_words, input_words, datapoint_words, fault_words, reader_line};
+ghost use Rattle.replay.specs.RunText.{not_now_line, digits_line, head_if, newline_unless, text_lines, handed_line, count_words, input_words, datapoint_words, fault_words, reader_line};
 
 use crate::handed_form::HandedForm;
 use reader_core::ReaderCounts;
@@ -16,7 +16,7 @@ pub(crate) fn push_not_now(text: &mut String, line: usize) -> Result<(), AllocEr
     text.push('\n')
 }
 
-/// Adds what a connection of a destination got.
+/// Adds what a connection of a destination got, as digits, and in this form then as it is, with words before each line.
 pub(crate) fn push_handed(
     alloc: Global,
     text: &mut Vec<u8>,
@@ -31,7 +31,10 @@ pub(crate) fn push_handed(
     push_digits(alloc, text, dest, connection, bytes)?;
     match form {
         HandedForm::Digits => Ok(()),
-        HandedForm::DigitsAndText => push_text(alloc, text, dest, connection, bytes),
+        HandedForm::DigitsAndText => {
+            let head = format!(in alloc; "text {dest} {connection} ")?;
+            push_with_head(text, head.as_str().as_bytes(), bytes)
+        }
     }
 }
 
@@ -49,21 +52,6 @@ fn push_digits(
     let digits = hex::encode(alloc, bytes)?;
     let line = format!(in alloc; "handed {dest} {connection} {digits}\n")?;
     text.extend_from_slice(line.as_str().as_bytes())
-}
-
-/// Adds bytes that a connection got as they are, with words before each line.
-fn push_text(
-    alloc: Global,
-    text: &mut Vec<u8>,
-    dest: usize,
-    connection: usize,
-    bytes: &[u8],
-) -> Result<(), AllocError>
-    ensures { OnOk result (text.new.items
-        ≡ text.old.items ++ text_lines (text_head dest connection) true bytes.now) }
-{
-    let head = format!(in alloc; "text {dest} {connection} ")?;
-    push_with_head(text, head.as_str().as_bytes(), bytes)
 }
 
 /// Adds bytes, with a head before each line. A last line without its newline gets one.

@@ -16,11 +16,11 @@ two-parts a b start text p q = q ∙ ap (λ (l : List ℕ). l ++ b) p
 
 pub returns : goal.returns
 returns c = λ size limit begun.
+    let script = c.args.script.now in
     let start = c.args.world.now in
     let plan = start.plan in
     let form = c.args.form in
     let dests = c.args.dests.now in
-    let script = c.args.script.now in
     let run : Run = run_of_script plan size limit script in
     let came = c.in_ok-apply_all.ensures.come in
     let end = c.apply_all.new.world in

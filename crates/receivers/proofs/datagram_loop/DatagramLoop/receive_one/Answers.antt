@@ -1,9 +1,8 @@
-use Rattle.std.proofs.Common.{◌≤◌, ℕ, [], ◌++◌, length, refl, subst}
+use Rattle.std.proofs.Common.{[], ◌++◌, refl}
 use Rattle.queue_records.specs.Offers.{IsRefusedBy}
-use Rattle.mio_loops.proofs.ServingLemmas.{waits-among}
 use Rattle.mio_loops.proofs.ReadingLemmas.{went-waiting, went-then}
 use Rattle.receivers.specs.Datagrams.{is_at}
-use Rattle.receivers.proofs.DatagramLemmas.{datagrams-went}
+use Rattle.receivers.proofs.DatagramLemmas.{datagrams-offered, datagrams-went}
 use Rattle.receivers.proofs.MomentLemmas.{fed-moments}
 use Rattle.receivers.proofs.datagram_loop.DatagramLoop.receive_one.Goals as goal
 
@@ -12,9 +11,8 @@ returns-then-not-make_offers g c =
     let plan = c.args.plan.now in
     let loop = c.args.self.now in
     let made = c.make_offers.ensures.made in
-    datagrams-went (IsRefusedBy g.D.Door.may_refuse) (is_at c.args.moment) plan plan [] made.0 loop _ _ _ c.requires (went-waiting plan loop.number made.0 _ _ _ _ loop.log made.1) refl refl refl
-    (subst (λ (n : ℕ). n ≤ length (g.D.Door.record_of c.make_offers.new.door).totals) c.destinations.ensures c.make_offers.ensures.dests)
-    (waits-among (IsRefusedBy g.D.Door.may_refuse loop.number) _ plan.destinations _ c.destinations.ensures c.make_offers.ensures.waits)
+    datagrams-offered (IsRefusedBy g.D.Door.may_refuse) (is_at c.args.moment) plan _ made.0 loop _ _ _ c.requires
+    (went-waiting plan loop.number made.0 _ _ _ _ loop.log made.1) refl c.destinations.ensures c.make_offers.ensures.dests c.make_offers.ensures.waits
 
 pub returns-in-Ok : goal.returns-in-Ok
 returns-in-Ok g c =
@@ -32,6 +30,5 @@ returns-in-Err g c =
     let plan = c.args.plan.now in
     let loop = c.args.self.now in
     let made = c.make_offers.ensures.made in
-    datagrams-went (IsRefusedBy g.D.Door.may_refuse) (is_at c.args.moment) plan plan [] made.0 loop _ _ _ c.requires (went-waiting plan loop.number made.0 _ _ _ _ loop.log made.1) refl refl refl
-    (subst (λ (n : ℕ). n ≤ length (g.D.Door.record_of c.make_offers.new.door).totals) c.destinations.ensures c.make_offers.ensures.dests)
-    (waits-among (IsRefusedBy g.D.Door.may_refuse loop.number) _ plan.destinations _ c.destinations.ensures c.make_offers.ensures.waits)
+    datagrams-offered (IsRefusedBy g.D.Door.may_refuse) (is_at c.args.moment) plan _ made.0 loop _ _ _ c.requires
+    (went-waiting plan loop.number made.0 _ _ _ _ loop.log made.1) refl c.destinations.ensures c.make_offers.ensures.dests c.make_offers.ensures.waits
