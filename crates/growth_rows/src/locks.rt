@@ -22,8 +22,8 @@ pub(crate) const NAMES: &[&str] = &["Queues::new", "LockedDoor::offer", "Queues:
 pub(crate) fn run<R: Wait>(rt: &HostRuntime, waits: &R, alloc: Global, name: &str) -> Option<()> {
     match name {
         "Queues::new" => open_twice(rt, alloc),
-        "LockedDoor::offer" => offer_once(rt, waits, alloc),
-        "Queues::settle" => settle_twice(rt, waits, alloc),
+        "LockedDoor::offer" => open_and(rt, waits, alloc, Act::Offer),
+        "Queues::settle" => open_and(rt, waits, alloc, Act::Settle),
         _ => None,
     }
 }
@@ -70,25 +70,49 @@ fn open<B: Set>(alloc: Global, blank: BlankTotals) -> Option<Opened<B>>
     Queues::<B>::new(alloc, blank, 1, 1, 10, 2, 1).ok()
 }
 
-fn offer_once<R: Wait>(rt: &HostRuntime, waits: &R, alloc: Global) -> Option<()> {
-    let blank = BlankTotals::new(alloc).ok()?;
-    offer::<Brand, R>(rt, waits, alloc, blank)
+/// What is done with the queue once it is open.
+#[derive(Clone, Copy)]
+enum Act {
+    Offer,
+    Settle,
 }
 
-fn offer<B: Set, R: Wait>(
+fn open_and<R: Wait>(rt: &HostRuntime, waits: &R, alloc: Global, act: Act) -> Option<()> {
+    let blank = BlankTotals::new(alloc).ok()?;
+    act_on_set::<Brand, R>(rt, waits, alloc, blank, act)
+}
+
+fn act_on_set<B: Set, R: Wait>(
     rt: &HostRuntime,
     waits: &R,
     alloc: Global,
     blank: BlankTotals,
+    act: Act,
 ) -> Option<()>
     requires table { blank ≡ B.table }
     requires set { (1 ≡ B.name) × (1 ≡ B.dests) × (2 ≡ B.receivers) × (1 ≡ B.senders)
         × (10 ≡ B.size) }
 {
     let mut opened = open::<B>(alloc, blank)?;
+    let done = match act {
+        Act::Offer => offer(rt, waits, alloc, &mut opened),
+        Act::Settle => settle(rt, waits, alloc, &mut opened),
+    };
+    drop(opened);
+    done
+}
+
+/// Makes the offers, and prints what the queue has counted then.
+fn offer<B: Set, R: Wait>(
+    rt: &HostRuntime,
+    waits: &R,
+    alloc: Global,
+    opened: &mut Opened<B>,
+) -> Option<()>
+    requires { 1 ≡ B.dests }
+{
     let offered = offer_at_seat(rt, waits, alloc, &opened.queues, &mut opened.doors);
     print_state(rt, &opened.queues.counts(waits, DestId(0)));
-    drop(opened);
     offered
 }
 
@@ -127,28 +151,7 @@ fn offer_through<B: Set, R: Wait>(
     Some(())
 }
 
-fn settle_twice<R: Wait>(rt: &HostRuntime, waits: &R, alloc: Global) -> Option<()> {
-    let blank = BlankTotals::new(alloc).ok()?;
-    settle::<Brand, R>(rt, waits, alloc, blank)
-}
-
 fn settle<B: Set, R: Wait>(
-    rt: &HostRuntime,
-    waits: &R,
-    alloc: Global,
-    blank: BlankTotals,
-) -> Option<()>
-    requires table { blank ≡ B.table }
-    requires set { (1 ≡ B.name) × (1 ≡ B.dests) × (2 ≡ B.receivers) × (1 ≡ B.senders)
-        × (10 ≡ B.size) }
-{
-    let mut opened = open::<B>(alloc, blank)?;
-    let settled = settle_opened(rt, waits, alloc, &mut opened);
-    drop(opened);
-    settled
-}
-
-fn settle_opened<B: Set, R: Wait>(
     rt: &HostRuntime,
     waits: &R,
     alloc: Global,

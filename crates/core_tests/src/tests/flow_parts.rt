@@ -40,16 +40,9 @@ pub(crate) trait FlowRuntime: Threads
 
 impl<R> FlowRuntime for R
 where
-    R: Threads
-        + Wait
-        + Clock
-        + Net<Listener = TcpListener, Stream = TcpStream>
-        + Resolve
-        + Copy
-        + Send
-        + Sync
-        + Drop
-        + 'static,
+    R: Threads + Wait + Clock + Resolve,
+    R: Net<Listener = TcpListener, Stream = TcpStream>,
+    R: Copy + Send + Sync + Drop + 'static,
 {}
 
 /// What all parts share.

@@ -20,7 +20,7 @@ use std::sync::atomic::{AtomicBool, Ordering};
 use std::thread::Threads;
 
 /// What two producers send, what each store may get then, and how much each queue has counted.
-struct Case {
+struct Flow {
     shape: Shape,
     // Whether the first receiver is held inside queue 0.
     is_held: bool,
@@ -43,8 +43,8 @@ fn all_of(count: u64) -> Counts {
 }
 
 /// One queue of two receivers: the store gets 24 bytes, each producer's lines in order. And a queue for each receiver.
-static CASES: [Case; 2] = [
-    Case {
+static FLOWS: [Flow; 2] = [
+    Flow {
         shape: Shape {
             name: 1,
             dests: 1,
@@ -61,7 +61,7 @@ static CASES: [Case; 2] = [
         ]],
         kept: &[3],
     },
-    Case {
+    Flow {
         shape: Shape {
             name: 2,
             dests: 2,
@@ -77,16 +77,16 @@ static CASES: [Case; 2] = [
 ];
 
 /// A store for each destination.
-fn stores_of<R: FlowRuntime>(rt: &R, alloc: Global, case: &Case) -> Option<Vec<Store>> {
+fn stores_of<R: FlowRuntime>(rt: &R, alloc: Global, flow: &Flow) -> Option<Vec<Store>> {
     let mut stores = Vec::new(alloc);
-    for _ in case.texts {
+    for _ in flow.texts {
         stores.push(Store::new(rt, alloc)?).ok()?;
     }
     Some(stores)
 }
 
 /// These stores as destinations, the first with the instance `a`, the second with `b`. A ring of them sends the names of each
-/// case to the store of the same place: it places nodes by their hosts and instances.
+/// flow to the store of the same place: it places nodes by their hosts and instances.
 fn list_of(alloc: Global, stores: &[Store]) -> Option<String> {
     let first = stores.first()?.port()?;
     match stores.get(1) {
@@ -117,23 +117,23 @@ fn are_settled<B: Set, R: Wait>(
     alloc: Global,
     queues: &mut Queues<B>,
     records: Records,
-    case: &Case,
+    flow: &Flow,
 ) -> Option<bool>
-    requires { case.now.shape.dests ≡ B.dests }
+    requires { flow.now.shape.dests ≡ B.dests }
 {
     let Records {
         doors: [first, second],
         outlet,
     } = records;
     let (doors, outlets) = ([first?, second?], [outlet?]);
-    for (dest, kept) in case.kept.iter().enumerate() {
-        if dest >= case.shape.dests || queues.counts(rt, DestId(dest)) != all_of(*kept) {
+    for (dest, kept) in flow.kept.iter().enumerate() {
+        if dest >= flow.shape.dests || queues.counts(rt, DestId(dest)) != all_of(*kept) {
             return Some(false);
         }
     }
     let settled = queues.settle(alloc, &doors, &outlets);
     let are_settled = match &settled {
-        Ok(settled) => are_counted(&settled.counts, case),
+        Ok(settled) => are_counted(&settled.counts, flow),
         Err(_) => false,
     };
     drop(settled);
@@ -141,20 +141,20 @@ fn are_settled<B: Set, R: Wait>(
 }
 
 /// Whether all queues of a settling have these counts.
-fn are_counted(counts: &[Counts], case: &Case) -> bool {
-    counts.len() == case.kept.len()
+fn are_counted(counts: &[Counts], flow: &Flow) -> bool {
+    counts.len() == flow.kept.len()
         && counts
             .iter()
-            .zip(case.kept)
+            .zip(flow.kept)
             .all(|(counts, kept)| *counts == all_of(*kept))
 }
 
 /// Whether each store got one of its texts.
-fn are_delivered(stores: &[Store], case: &Case) -> bool {
-    stores.len() == case.texts.len()
+fn are_delivered(stores: &[Store], flow: &Flow) -> bool {
+    stores.len() == flow.texts.len()
         && stores
             .iter()
-            .zip(case.texts)
+            .zip(flow.texts)
             .all(|(store, texts)| texts.contains(&store.taken()))
 }
 
@@ -165,92 +165,84 @@ fn is_moved_to<B: Set + Send + Sync, R: FlowRuntime>(
     queues: &mut Queues<B>,
     parts: Parts<B>,
     stores: &mut Vec<Store>,
-    case: &Case,
+    flow: &Flow,
 ) -> Option<bool>
-    requires { case.now.shape.dests ≡ B.dests }
+    requires { flow.now.shape.dests ≡ B.dests }
 {
     let gate = HoldsFirst {
         is_held: AtomicBool::new(false),
-        is_released: AtomicBool::new(!case.is_held),
+        is_released: AtomicBool::new(!flow.is_held),
         has_given_up: AtomicBool::new(false),
     };
     let listed = list_of(alloc, stores)?;
     let config = ring_of(alloc, listed.as_str())?;
     let stop = AtomicBool::new(false);
     let mut counts = Vec::new(alloc);
-    for texts in case.texts {
+    for texts in flow.texts {
         counts.push(texts.first()?.len()).ok()?;
     }
     let common = Common {
         queues,
-        dests: case.shape.dests,
+        dests: flow.shape.dests,
         gate: &gate,
         config: config.as_str(),
         listed: listed.as_str(),
         stop: &stop,
     };
     let records = in_threads(rt, alloc, &common, parts, stores, &counts);
-    let is_settled = are_settled(rt, alloc, queues, records, case)?;
-    Some(is_settled && are_delivered(stores, case) && !gate.has_given_up.load(Ordering::SeqCst))
+    let is_settled = are_settled(rt, alloc, queues, records, flow)?;
+    Some(is_settled && are_delivered(stores, flow) && !gate.has_given_up.load(Ordering::SeqCst))
 }
 
-/// Whether a set of the case's shape moves all.
+/// Whether a set of the flow's shape moves all.
 fn set_moves<B: Set + Send + Sync, R: FlowRuntime>(
     rt: &R,
     alloc: Global,
     blank: BlankTotals,
-    case: &Case,
+    flow: &Flow,
 ) -> Option<bool>
     requires table { blank ≡ B.table }
-    requires name { case.now.shape.name ≡ B.name }
-    requires dests { case.now.shape.dests ≡ B.dests }
-    requires receivers { case.now.shape.receivers ≡ B.receivers }
-    requires senders { case.now.shape.senders ≡ B.senders }
-    requires size { case.now.shape.size ≡ B.size }
+    requires set { (flow.now.shape.name ≡ B.name) × (flow.now.shape.dests ≡ B.dests)
+        × (flow.now.shape.receivers ≡ B.receivers) × (flow.now.shape.senders ≡ B.senders)
+        × (flow.now.shape.size ≡ B.size) }
 {
-    let first = Producer::new(rt, alloc, case.sent[0])?;
-    let second = Producer::new(rt, alloc, case.sent[1])?;
-    let mut stores = stores_of(rt, alloc, case)?;
+    let first = Producer::new(rt, alloc, flow.sent[0])?;
+    let second = Producer::new(rt, alloc, flow.sent[1])?;
+    let mut stores = stores_of(rt, alloc, flow)?;
     let Opened {
         mut queues,
         doors,
         outlets,
-    } = open_set::<B>(alloc, blank, case.shape)?;
+    } = open_set::<B>(alloc, blank, flow.shape)?;
     let parts = Parts {
         doors,
         outlets,
         first,
         second,
     };
-    let is_moved = is_moved_to(rt, alloc, &mut queues, parts, &mut stores, case);
+    let is_moved = is_moved_to(rt, alloc, &mut queues, parts, &mut stores, flow);
     drop(queues);
     drop(stores);
     is_moved
 }
 
 /// Whether that is so of both cases.
-fn all_are_moved<
-    R: Threads
-        + Wait
-        + Clock
-        + Net<Listener = TcpListener, Stream = TcpStream>
-        + Resolve
-        + Copy
-        + Send
-        + Sync
-        + Drop
-        + 'static,
->(rt: &R, alloc: Global) -> bool {
+fn all_are_moved<R>(rt: &R, alloc: Global) -> bool
+where
+    R: Threads + Wait + Clock + Resolve,
+    R: Net<Listener = TcpListener, Stream = TcpStream>,
+    R: Copy + Send + Sync + Drop + 'static,
+{
     let mut all = true;
-    for case in &CASES {
-        all = all && is_moved(rt, alloc, case);
+    for flow in &FLOWS {
+        all = all && is_moved(rt, alloc, flow);
     }
     all
 }
 
-fn is_moved<R: FlowRuntime>(rt: &R, alloc: Global, case: &Case) -> bool {
+fn is_moved<R: FlowRuntime>(rt: &R, alloc: Global, flow: &Flow) -> bool {
     match BlankTotals::new(alloc) {
-        Ok(blank) => set_moves::<Brand, R>(rt, alloc, blank, case) == Some(true),
+        Ok(blank) => set_moves::<Brand, R>(rt, alloc, blank, flow) == Some(true),
         Err(_) => false,
     }
 }

@@ -6,8 +6,8 @@ use dest_queue::{Hand, QueuedPoints};
 use dest_writer::{GatherBuf, Writer};
 use handover::{FirstBytes, Rest, RestConnection, RestTurn};
 use std::alloc::Global;
-use std::io;
-use std::io::{ErrorKind, Read, Write};
+use std::io::Read;
+use test_doubles::{FaultyStep, FaultyWriter};
 
 /// The limit of a batch: a hand of three lines.
 const LIMIT: usize = 3;
@@ -47,48 +47,25 @@ fn bytes_come_first(rt: HostRuntime) {
     assert!(rt; gives_both(rt.alloc()));
 }
 
-// Takes at most `most` bytes a write; each write after one that took some would have to wait. After `room` bytes it fails.
-#[derive(Drop)]
-struct Slow {
-    taken: Vec<u8>,
-    most: usize,
-    room: usize,
-    blocks: bool,
-}
+// A connection takes at most five bytes a write, and after each of the first three it would have to wait.
+const SLOW: [FaultyStep; 6] = [
+    FaultyStep::Pass(5),
+    FaultyStep::Block,
+    FaultyStep::Pass(5),
+    FaultyStep::Block,
+    FaultyStep::Pass(5),
+    FaultyStep::Block,
+];
 
-impl Write for Slow {
-    fn write(&mut self, buf: &[u8]) -> io::Result<usize> {
-        self.blocks = !self.blocks;
-        if !self.blocks {
-            return Err(io::Error::from(ErrorKind::WouldBlock));
-        }
-        let count = self.most.min(buf.len()).min(self.room);
-        if count == 0 {
-            return Err(io::Error::from(ErrorKind::BrokenPipe));
-        }
-        self.taken
-            .extend_from_slice(&buf[..count])
-            .map_err(|_| io::Error::from(ErrorKind::OutOfMemory))?;
-        self.room = self.room.saturating_sub(count);
-        Ok(count)
-    }
+// It takes one byte, would have to wait, and fails.
+const CUT: [FaultyStep; 3] = [FaultyStep::Pass(1), FaultyStep::Block, FaultyStep::Fail];
 
-    fn flush(&mut self) -> io::Result<()> {
-        Ok(())
-    }
-}
-
-fn slow_stream(alloc: Global, most: usize, room: usize) -> Slow {
-    Slow {
-        taken: Vec::new(alloc),
-        most,
-        room,
-        blocks: false,
-    }
+fn stream_by(alloc: Global, steps: &'static [FaultyStep]) -> FaultyWriter<'static> {
+    FaultyWriter::new(Vec::new(alloc), steps)
 }
 
 // Three lines in hand, of which the connection took eight bytes, and the three behind them.
-fn rest_of(alloc: Global) -> Option<RestConnection<Slow>> {
+fn rest_of(alloc: Global) -> Option<RestConnection<FaultyWriter<'static>>> {
     let Ok(mut writer) = Writer::new(alloc, LIMIT) else {
         return None;
     };
@@ -116,7 +93,10 @@ fn points_of(alloc: Global) -> Option<QueuedPoints> {
 }
 
 // The connection that took all of a rest, if one did.
-fn sent(alloc: Global, rest: &mut RestConnection<Slow>) -> Option<Slow> {
+fn sent(
+    alloc: Global,
+    rest: &mut RestConnection<FaultyWriter<'static>>,
+) -> Option<FaultyWriter<'static>> {
     let mut gathered = GatherBuf::new(alloc).ok()?;
     for _ in 0..MOST_TURNS {
         match rest.send(&mut gathered) {
@@ -129,11 +109,11 @@ fn sent(alloc: Global, rest: &mut RestConnection<Slow>) -> Option<Slow> {
 }
 
 // Whether a stream got this part of the hand's text, and then the queue's.
-fn got(stream: &Slow, from: usize) -> bool {
+fn got(stream: &FaultyWriter<'_>, from: usize) -> bool {
     let Some(part) = TEXT.get(from..) else {
         return false;
     };
-    match stream.taken.as_slice().strip_prefix(part) {
+    match stream.taken().strip_prefix(part) {
         Some(queue) => queue == TEXT,
         None => false,
     }
@@ -144,7 +124,7 @@ fn goes_on_at_its_byte(alloc: Global) -> bool {
     let Some(mut rest) = rest_of(alloc) else {
         return false;
     };
-    rest.go_on(slow_stream(alloc, 5, 1_000));
+    rest.go_on(stream_by(alloc, &SLOW));
     match sent(alloc, &mut rest) {
         Some(stream) => got(&stream, 8) && rest.rest().is_empty(),
         None => false,
@@ -161,11 +141,11 @@ fn begins_at_a_line(alloc: Global) -> bool {
     let Some(mut rest) = rest_of(alloc) else {
         return false;
     };
-    rest.go_on(slow_stream(alloc, 5, 1));
+    rest.go_on(stream_by(alloc, &CUT));
     if sent(alloc, &mut rest).is_some() || rest.is_open() {
         return false;
     }
-    rest.begin(slow_stream(alloc, 5, 1_000));
+    rest.begin(stream_by(alloc, &SLOW));
     match sent(alloc, &mut rest) {
         Some(stream) => got(&stream, 6),
         None => false,

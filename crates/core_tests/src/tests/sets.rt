@@ -309,11 +309,9 @@ pub(crate) fn settle_set<B: Set, R: Wait>(
     others: Option<&Records>,
 ) -> Option<SetReport>
     requires table { blank ≡ B.table }
-    requires name { shape.name ≡ B.name }
-    requires dests { shape.dests ≡ B.dests }
-    requires receivers { shape.receivers ≡ B.receivers }
-    requires senders { shape.senders ≡ B.senders }
-    requires size { shape.size ≡ B.size }
+    requires set { (shape.name ≡ B.name) × (shape.dests ≡ B.dests)
+        × (shape.receivers ≡ B.receivers) × (shape.senders ≡ B.senders)
+        × (shape.size ≡ B.size) }
 {
     if shape.dests == 0 {
         return None;

@@ -34,11 +34,9 @@ fn is_within(shape: &Shape) -> bool
 /// Opens a set of this shape.
 pub(crate) fn open_set<B: Set>(alloc: Global, blank: BlankTotals, shape: Shape) -> Option<Opened<B>>
     requires table { blank ≡ B.table }
-    requires name { shape.name ≡ B.name }
-    requires dests { shape.dests ≡ B.dests }
-    requires receivers { shape.receivers ≡ B.receivers }
-    requires senders { shape.senders ≡ B.senders }
-    requires size { shape.size ≡ B.size }
+    requires set { (shape.name ≡ B.name) × (shape.dests ≡ B.dests)
+        × (shape.receivers ≡ B.receivers) × (shape.senders ≡ B.senders)
+        × (shape.size ≡ B.size) }
 {
     if !is_within(&shape) {
         return None;

@@ -287,11 +287,9 @@ fn set_settles<B: Set + Send + Sync, R: Threads + Wait + Sync>(
     case: &Case,
 ) -> Option<bool>
     requires table { blank ≡ B.table }
-    requires name { case.now.shape.name ≡ B.name }
-    requires dests { case.now.shape.dests ≡ B.dests }
-    requires receivers { case.now.shape.receivers ≡ B.receivers }
-    requires senders { case.now.shape.senders ≡ B.senders }
-    requires size { case.now.shape.size ≡ B.size }
+    requires set { (case.now.shape.name ≡ B.name) × (case.now.shape.dests ≡ B.dests)
+        × (case.now.shape.receivers ≡ B.receivers) × (case.now.shape.senders ≡ B.senders)
+        × (case.now.shape.size ≡ B.size) }
 {
     let Opened {
         mut queues,
