@@ -9,9 +9,9 @@ use std::alloc::Global;
 use std::net::{IpAddr, SocketAddr};
 
 /// The greatest number of seconds that `--drain` takes, and that `--idle` takes.
-const LONGEST_DRAIN: u64 = 3_600;
+const LONGEST_DRAIN_SECONDS: u64 = 3_600;
 
-const LONGEST_IDLE: u64 = 86_400;
+const LONGEST_IDLE_SECONDS: u64 = 86_400;
 
 /// What the options of `run` ask for, beside files and notes.
 #[derive(Clone, Copy)]
@@ -38,8 +38,8 @@ pub fn run_options(alloc: Global, options: &ArgMatches<'_>) -> Result<RunOptions
         admin: admin_option(alloc, options)?,
         senders: senders_option(alloc, options)?,
         line_receivers: line_receivers_option(alloc, options)?,
-        drain: seconds_option(alloc, options, "drain", LONGEST_DRAIN)?,
-        idle: seconds_option(alloc, options, "idle", LONGEST_IDLE)?,
+        drain: seconds_option(alloc, options, "drain", LONGEST_DRAIN_SECONDS)?,
+        idle: seconds_option(alloc, options, "idle", LONGEST_IDLE_SECONDS)?,
         status: status_option(alloc, options)?,
         has_log: options.get_flag("log"),
     })

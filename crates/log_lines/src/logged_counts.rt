@@ -6,7 +6,7 @@ ghost use Rattle.log_lines.specs.LoggedCounts.{counts_logged_after, has_bad, has
 use crate::receiver_counts::ReceiverCounts;
 
 /// The least time between two lines of the counts of a receiver, in milliseconds.
-const BETWEEN_LINES: u64 = 60_000;
+const BETWEEN_LINES_MS: u64 = 60_000;
 
 /// The greatest number of connections that a receiver holds.
 pub const MOST_CONNECTIONS: u64 = relay_base::MOST_CONNECTIONS as u64;
@@ -72,7 +72,7 @@ pub(crate) fn is_minute_over(at: Option<u64>, millis: u64) -> bool
     ensures { result ≡ is_minute_over at millis }
 {
     match at {
-        Some(at) => millis.saturating_sub(at) >= BETWEEN_LINES,
+        Some(at) => millis.saturating_sub(at) >= BETWEEN_LINES_MS,
         None => true,
     }
 }

@@ -18,7 +18,7 @@ pub(crate) const MOST_SAMPLES: usize = 150;
 pub(crate) const SAMPLE_SECONDS: u64 = 2;
 
 /// How many milliseconds pass from one look to the next: by these the ages of datapoints are known.
-pub(crate) const LOOK_MILLIS: u64 = 100;
+pub(crate) const LOOK_MS: u64 = 100;
 
 /// What a relay has counted at a moment: each queue, how each destination does, and each receiver.
 #[derive(Drop)]
@@ -82,7 +82,7 @@ impl StatusHistory {
 
     /// Whether the next look is due at these milliseconds.
     pub(crate) fn is_due(&self, millis: u64) -> bool {
-        millis.saturating_sub(self.looked) >= LOOK_MILLIS
+        millis.saturating_sub(self.looked) >= LOOK_MS
     }
 
     /// Looks at what was counted, and takes a sample if it is due; does nothing if out of memory.

@@ -20,7 +20,7 @@ const OWNER_ALONE: u32 = 0o600;
 /// folder for a moment after `stop --wait`.
 const TRIES: usize = 100;
 
-const PAUSE: u64 = 10;
+const PAUSE_MS: u64 = 10;
 
 /// How many bytes a line on standard error has at most.
 const LONGEST_LINE: usize = 4_200;
@@ -101,7 +101,7 @@ fn locked(rt: &HostRuntime, path: &str) -> Result<File, FolderFault> {
     for _ in 0..TRIES {
         match file.try_lock() {
             Ok(()) => return Ok(file),
-            Err(TryLockError::WouldBlock) => thread::sleep(rt, Duration::from_millis(PAUSE)),
+            Err(TryLockError::WouldBlock) => thread::sleep(rt, Duration::from_millis(PAUSE_MS)),
             Err(TryLockError::Error(_)) => return Err(FolderFault::CannotWrite),
         }
     }

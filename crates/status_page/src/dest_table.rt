@@ -9,7 +9,7 @@ use std::fmt::Write as _;
 
 /// From how many milliseconds on the age of the oldest queued datapoint is shown: below, looks at the queue are too rare to
 /// tell much.
-const LONG_QUEUED: u64 = 1_000;
+const LONG_QUEUED_MS: u64 = 1_000;
 
 /// Adds a table of the destinations that have no card, and nothing if there are none.
 pub(crate) fn push_dest_table(
@@ -48,7 +48,7 @@ fn push_row(text: &mut String, dest: &DestSnapshot, size: u64) -> Result<(), All
     text.push_str("</td><td>")?;
     push_count(text, dest.rates.written)?;
     write!(text, "</td><td>{} %", percent_of(dest.counts.queued, size))?;
-    if dest.oldest >= LONG_QUEUED {
+    if dest.oldest >= LONG_QUEUED_MS {
         text.push_str(", ")?;
         push_millis(text, dest.oldest)?;
     }

@@ -8,14 +8,14 @@ use crate::snapshot::{DestSnapshot, ReceiverSnapshot, Snapshot};
 use log_lines::ReceiverState;
 
 /// For how many seconds a queue may have datapoints and give none to a connection before its destination is stuck.
-pub(crate) const LONG_STALL: u64 = 3;
+pub(crate) const LONG_STALL_SECONDS: u64 = 3;
 
 /// How many connections a destination that flaps has lost in the last minute, at least.
 pub(crate) const MANY_LOSSES: u64 = 3;
 
 /// After how many seconds without a datapoint the status says that there is no input: producers mostly send once a
 /// minute.
-pub(crate) const LONG_SILENCE: u64 = 75;
+pub(crate) const LONG_SILENCE_SECONDS: u64 = 75;
 
 /// What the status says first: the worst that is true. A loss it names of the destination that loses most, all else of the
 /// first destination or receiver of which it is true.
@@ -219,7 +219,7 @@ pub(crate) fn is_filling(dest: &DestSnapshot, size: u64) -> bool
 pub(crate) fn is_stuck(dest: &DestSnapshot) -> bool
     ensures { result ≡ is_stuck dest.now }
 {
-    dest.is_up && LONG_STALL <= dest.stalled
+    dest.is_up && LONG_STALL_SECONDS <= dest.stalled
 }
 
 /// Whether it has no connection.
@@ -257,5 +257,5 @@ pub(crate) fn is_bad(receiver: &ReceiverSnapshot) -> bool
 fn is_silent(seconds: u64) -> bool
     ensures { result ≡ is_silent seconds }
 {
-    LONG_SILENCE <= seconds
+    LONG_SILENCE_SECONDS <= seconds
 }
