@@ -26,7 +26,8 @@ from processes import interrupt, rt
 from rooms import TOP, bring_back, folder_of, locked, room_of, rows
 
 WORDS = {"relayd": ["--version"]}  # what a program is given when `rt run` has built it; the others need no words
-IN_A_MINUTE = 0.55  # GB of memory that a crate takes for each minute of its proof, beside the one that each takes
+IN_A_MINUTE = 0.3  # GB of memory that a crate takes for each minute of its proof, beside the one that each takes
+LARGE = 9.0  # minutes from which on a crate gets more than one job, whatever waits beside it: at last all wait for it
 
 
 def crates_below():
@@ -85,7 +86,8 @@ def in_order(names, below, work):
 
     def begin(name, others):
         """Begins a crate, with the processors that no other ready crate waits for: each job loads all below."""
-        jobs = max(1, (LANES - sum(jobs for _, jobs in running.values())) // (1 + others))
+        free = (LANES - sum(jobs for _, jobs in running.values())) // (1 + others)
+        jobs = max(free, LANES * 3 // 4 if pace.cost[name] >= LARGE else 1, 1)
         left.remove(name)
         running[pool.submit(work, name, jobs)] = name, jobs
 
@@ -114,10 +116,10 @@ def in_order(names, below, work):
 
 
 def prove(name, verb, jobs, below):
-    """Proves a crate in a room of its own, by `rt check`, `lib` or `run`, and brings back what it made and kept."""
+    """Proves a crate in a room of its own, by `rt` with this verb, and brings back what it made and kept."""
     began = time.monotonic()
     with room_of(name, closure([name], below)) as room, locked(name):
-        words = [verb, "--jobs", str(jobs), *(["--", *WORDS.get(name, [])] if verb == "run" else [])]
+        words = [*verb.split(), "--jobs", str(jobs), *(["--", *WORDS.get(name, [])] if verb == "run" else [])]
         status, said = rt(words, folder_of(name, room))
         bring_back(name, room)
         if status == 0:
@@ -141,9 +143,15 @@ def prove_all(verbs, below):
 
 
 def verbs_of(names, below, program=None):
-    """What is done for each crate: a library that another one needs is built too, and so is the program."""
+    """What is done for each crate: a library that another one needs is built too, and so is the program. Of a crate of tests
+    the tests are proved."""
     lower = {it for name in names for it in below[name]}
-    return {name: "run" if name == program else "lib" if name in lower else "check" for name in names}
+
+    def verb(name):
+        alone = "check --test" if name.endswith("_tests") else "check"
+        return "run" if name == program else "lib" if name in lower else alone
+
+    return {name: verb(name) for name in names}
 
 
 def time_to_build(program, below):

@@ -13,10 +13,10 @@ OVER_KEPT = 6  # how often faster a crate is proved over what an earlier run kep
 
 
 def costs(names):
-    """Minutes of processor for the proof of each crate, as the table has them."""
+    """Minutes of processor for the proof of each crate, or of its tests, as the table has them."""
     with open(os.path.join(TOP, "docs", "GATE.md"), encoding="utf-8") as file:
-        found = re.findall(r"^\| `(\w+)` \| ([\d.]+) \|", file.read(), re.M)
-    table = {name: float(minutes) for name, minutes in found}
+        found = re.findall(r"^\| `(\w+)` \| ([\d.]*) \| ([\d.]*) \|", file.read(), re.M)
+    table = {name: float(proof or tests) for name, proof, tests in found}
     return {name: table.get(name, USUAL) for name in names}
 
 
