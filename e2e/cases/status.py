@@ -222,7 +222,8 @@ class Status(Serving):
             self.assertEqual((now["connections"], now["connection_losses"], now["queued"]), (1, 0, 0))
             self.assertGreater(now["failed_tries"], 0)
             self.assertEqual(now["written_bytes"], 6 * now["taken"])
-            self.assertGreaterEqual(now["last_write_timestamp_seconds"], int(began))
+            # The second in which the relay began and the whole seconds since then may be one second short together.
+            self.assertGreaterEqual(now["last_write_timestamp_seconds"], int(began) - 1)
             self.assertLessEqual(now["last_write_timestamp_seconds"], time.time() + 1)
             turns = []
 
