@@ -18,9 +18,8 @@ import time
 
 from rooms import TOP, folder_of
 
-FIRST = ("make quick", "make demo", "make quick-test", "make", "make check", "make demo", "make e2e",
-         "python3 e2e/refusals.py")  # in this order
-LAST = ("make hostile", "/usr/bin/python3 e2e/field/run.py")
+FIRST = ("make quick", "make demo", "make quick-test", "make", "make check", "make demo", "make e2e", "make hostile",
+         "python3 e2e/refusals.py", "/usr/bin/python3 e2e/field/run.py")  # in this order
 CHANGES = {  # a file of the crate, a line of it, and what is written there
     "line_text": ("src/line_end.rt", "    FirstLine {\n        text: &text[..place],\n        rest: &text[place + 1..],\n",
                   "    let after = place + 1;\n    FirstLine {\n        text: &text[..place],\n        rest: &text[after..],\n"),

@@ -26,7 +26,7 @@ from processes import interrupt, rt
 from rooms import TOP, bring_back, folder_of, locked, room_of, rows
 
 WORDS = {"relayd": ["--version"]}  # what a program is given when `rt run` has built it; the others need no words
-IN_A_MINUTE = 0.3  # GB of memory that a crate takes for each minute of its proof, beside the one that each takes
+IN_A_MINUTE = 0.4  # GB of memory that a crate takes for each minute of its proof, beside the one that each takes
 LARGE = 9.0  # minutes from which on a crate gets more than one job, whatever waits beside it: at last all wait for it
 
 

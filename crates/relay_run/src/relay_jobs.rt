@@ -27,7 +27,8 @@ pub(crate) struct JobMaker<'x, B: Set, R> {
     pub(crate) relay: &'x Relay<B>,
 }
 
-/// The jobs of the threads of a relay, of which each has its part. Refuses a fault of the start.
+/// The jobs of the threads of a relay, of which each has its part. Refuses a fault of the start: all jobs are made
+/// before the first fault among them is answered.
 pub(crate) fn jobs_of<'x, B: Set, R: RelayRuntime, L: Write + Drop>(
     rt: &'x R,
     alloc: Global,

@@ -16,7 +16,8 @@ pub(crate) fn push_not_now(text: &mut String, line: usize) -> Result<(), AllocEr
     text.push('\n')
 }
 
-/// Adds what a connection of a destination got, as digits, and in this form then as it is, with words before each line.
+/// Adds what a connection of a destination got: as digits, and if the form has text, then as it is, with words before each
+/// line.
 pub(crate) fn push_handed(
     alloc: Global,
     text: &mut Vec<u8>,
