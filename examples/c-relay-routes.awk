@@ -18,6 +18,9 @@ function look_at(new) { if (new != name) { flush(); given = name = new } }
 /^(rewrite|aggregation|match)$/ { kind = $0; is_first = 1; tested = 1; next }
 /^nothing matched / { tested = 1; look_at($NF); next }
 !kind { next }
+# A validate has two more lines: its expression beside the value and the time, and what came of it.
+/^    validate$/ { of_validate = 2; next }
+of_validate { of_validate--; next }
 kind == "rewrite" && /into\(.*\) -> / { name = $NF; next }
 / -> / {
     if (kind == "aggregation" && !is_first) next

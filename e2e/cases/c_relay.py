@@ -189,6 +189,19 @@ class CRelay(WithRelays):
             text = f"cluster a forward 127.0.0.1:1 ;\nrewrite Load$ into load ;\n{more}match * send to a ;\n"
             self.assertEqual(self.by_test_mode(text, ["a.Load", "a.load", "a.load"]), [[name, "127.0.0.1:1"]] * 3)
 
+    def test_validated_names(self):
+        """A `validate` takes no place in what the script makes of the test mode, whether it holds or not."""
+        text = ("cluster a forward 127.0.0.1:1 ;\ncluster b forward 127.0.0.1:2 ;\n"
+                "match ^x\\. validate ^[0-9.]+\\ [0-9]+$ else log send to a ;\n"
+                "match * validate ^[a-z]+$ else drop send to b ;\n")
+        self.assertEqual(self.by_test_mode(text, ["x.y", "z"]), [["x.y", "127.0.0.1:1"], ["z"]])
+
+    def test_a_listen_beside_an_option(self):
+        """With a `listen` in its file it ignores `-p`."""
+        other, = free_ports(1)
+        with self.c_relay("cluster a forward 127.0.0.1:1 ;\nmatch * send to a ;\n", ["-p", str(other)]):
+            self.assertFalse(listens(other))
+
     def test_aggregates(self):
         """Its methods are those of carbon-aggregator by the names of docs/MIGRATING.md, but for percentiles."""
         if not os.path.exists(CARBON_RULES):
