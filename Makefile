@@ -110,11 +110,13 @@ install: bin/relayd
 	install -D -m 755 bin/relayd $(DESTDIR)$(PREFIX)/bin/relayd
 	install -D -m 755 packaging/relayd-supervised $(DESTDIR)$(PREFIX)/bin/relayd-supervised
 	install -D -m 644 packaging/relayd.1 $(DESTDIR)$(PREFIX)/share/man/man1/relayd.1
-	ln -sf relayd.1 $(DESTDIR)$(PREFIX)/share/man/man1/relayd-supervised.1
+	install -D -m 644 packaging/relayd-supervised.1 $(DESTDIR)$(PREFIX)/share/man/man1/relayd-supervised.1
 	install -D -m 644 packaging/relay.conf.5 $(DESTDIR)$(PREFIX)/share/man/man5/relay.conf.5
 	install -D -m 644 packaging/relayd.bash $(DESTDIR)$(PREFIX)/share/bash-completion/completions/relayd
+	ln -sf relayd $(DESTDIR)$(PREFIX)/share/bash-completion/completions/relayd-supervised
 	install -D -m 644 packaging/_relayd $(DESTDIR)$(PREFIX)/share/zsh/site-functions/_relayd
 	install -D -m 644 packaging/relayd.fish $(DESTDIR)$(PREFIX)/share/fish/vendor_completions.d/relayd.fish
+	install -D -m 644 packaging/relayd-supervised.fish $(DESTDIR)$(PREFIX)/share/fish/vendor_completions.d/relayd-supervised.fish
 
 deb: bin/relayd
 	@$(call needs,dpkg-deb,the Debian package dpkg has it)

@@ -34,10 +34,11 @@ UNIT = "/lib/systemd/system/relayd.service"
 METRICS = ["/lib/systemd/system/relayd-metrics.service", "/lib/systemd/system/relayd-metrics.timer"]
 OF_INSTANCES = [f"/lib/systemd/system/{name}" for name in ("relayd@.service", "relayd-metrics@.service", "relayd-metrics@.timer")]
 LINK = "/etc/systemd/system/multi-user.target.wants/relayd.service"
-MAN_PAGES = ["/usr/share/man/man1/relayd.1.gz", "/usr/share/man/man5/relay.conf.5.gz"]
+MAN_PAGES = ["/usr/share/man/man1/relayd.1.gz", "/usr/share/man/man1/relayd-supervised.1.gz", "/usr/share/man/man5/relay.conf.5.gz"]
 FILES = [*CONFIGURATION, UNIT, *METRICS, *OF_INSTANCES, "/usr/share/relayd/report_to_graphite.py", "/usr/bin/relayd", "/usr/bin/relayd-supervised",
-         "/usr/share/bash-completion/completions/relayd", "/usr/share/zsh/vendor-completions/_relayd",
-         "/usr/share/fish/vendor_completions.d/relayd.fish", "/usr/share/man/man1/relayd-supervised.1.gz", *MAN_PAGES]
+         "/usr/share/bash-completion/completions/relayd", "/usr/share/bash-completion/completions/relayd-supervised",
+         "/usr/share/zsh/vendor-completions/_relayd", "/usr/share/fish/vendor_completions.d/relayd.fish",
+         "/usr/share/fish/vendor_completions.d/relayd-supervised.fish", *MAN_PAGES]
 DOC = "/usr/share/doc/relayd/"
 STATE = "/var/lib/relayd"  # as systemd names it by StateDirectory
 NOBODY = 65534

@@ -35,8 +35,11 @@ mkdir -p "$root/usr/share/relayd"
 sed 1d "$top/examples/report_to_graphite.py" >"$root/usr/share/relayd/report_to_graphite.py"
 chmod 644 "$root/usr/share/relayd/report_to_graphite.py"
 install -D -m 644 "$top/packaging/relayd.bash" "$root/usr/share/bash-completion/completions/relayd"
+ln -s relayd "$root/usr/share/bash-completion/completions/relayd-supervised"
 install -D -m 644 "$top/packaging/_relayd" "$root/usr/share/zsh/vendor-completions/_relayd"
-install -D -m 644 "$top/packaging/relayd.fish" "$root/usr/share/fish/vendor_completions.d/relayd.fish"
+for file in relayd.fish relayd-supervised.fish; do
+    install -D -m 644 "$top/packaging/$file" "$root/usr/share/fish/vendor_completions.d/$file"
+done
 for file in relay.conf relay-rules.conf rewrite-rules.conf; do
     install -D -m 644 "$top/examples/$file" "$root/etc/relayd/$file"
     echo "/etc/relayd/$file" >>"$root/DEBIAN/conffiles"
@@ -63,12 +66,11 @@ chmod 755 "$root"/usr/share/doc/relayd/examples/*.py "$root/usr/share/doc/relayd
 # These need a built source tree.
 rm "$root/usr/share/doc/relayd/examples/demo.sh" "$root/usr/share/doc/relayd/examples/running.py"
 python3 "$top/packaging/installed_pages.py" "$root/usr/share/doc/relayd"
-for page in relayd.1 relay.conf.5; do
+for page in relayd.1 relayd-supervised.1 relay.conf.5; do
     mkdir -p "$root/usr/share/man/man${page##*.}"
     gzip -9n <"$top/packaging/$page" >"$root/usr/share/man/man${page##*.}/$page.gz"
     chmod 644 "$root/usr/share/man/man${page##*.}/$page.gz"
 done
-ln -s relayd.1.gz "$root/usr/share/man/man1/relayd-supervised.1.gz"
 (cd "$root" && find usr lib -type f -exec md5sum {} + >DEBIAN/md5sums)
 
 cat >"$root/DEBIAN/control" <<END

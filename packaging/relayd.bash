@@ -1,4 +1,4 @@
-# Completion of relayd's command line for bash. The e2e case `completion` holds it against `relayd -h`.
+# Completion of the command lines of relayd and relayd-supervised for bash. The e2e case `completion` holds it against `relayd -h`.
 
 # Files that begin so; bash quotes them, and writes a slash after a folder.
 _relayd_files() {
@@ -54,4 +54,12 @@ _relayd() {
         mapfile -t COMPREPLY < <(compgen -W "$options -h --help" -- "$word")
     fi
 }
+
+# The options of `relayd run`.
+_relayd_supervised() {
+    COMP_WORDS=(relayd run "${COMP_WORDS[@]:1}")
+    COMP_CWORD=$((COMP_CWORD + 1))
+    _relayd
+}
 complete -F _relayd relayd
+complete -F _relayd_supervised relayd-supervised

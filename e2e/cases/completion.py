@@ -30,11 +30,11 @@ def options(*words):
 class Completion(harness.Suite):
     """What each shell offers."""
 
-    def offers(self, *words):
+    def offers(self, *words, **how):
         """For each shell that is there, its name and what it offers."""
         for name, by_shell in SHELLS.items():
             if shutil.which(name):
-                yield name, by_shell(*words)
+                yield name, by_shell(*words, **how)
 
     def test_all_shells_are_there(self):
         missing = [name for name in SHELLS if shutil.which(name) is None]
@@ -57,6 +57,15 @@ class Completion(harness.Suite):
         for command in set(commands()) - {"help"}:
             for name, offered in self.offers(command, "-"):
                 self.assertEqual(offered, options(command), (name, command))
+
+    def test_supervised(self):
+        """relayd-supervised has the options of `relayd run`, and its own help."""
+        for name, offered in self.offers("-", command="relayd-supervised"):
+            self.assertEqual(offered, options("run"), name)
+        for name, offered in self.offers("--config", "examples/relay.", command="relayd-supervised"):
+            self.assertEqual([os.path.basename(each) for each in offered], ["relay.conf"], name)
+        for name, offered in self.offers("--senders", "", command="relayd-supervised"):
+            self.assertEqual(offered, list("12345678"), name)
 
     def test_values(self):
         """Files for options that name one, numbers of senders, nothing for a port."""

@@ -69,6 +69,8 @@ class Packaged(harness.Suite):
             "/opt/relayd/bin/relayd": True,
             "/opt/relayd/bin/relayd-supervised": True,
             "/opt/relayd/share/bash-completion/completions/relayd": False,
+            "/opt/relayd/share/bash-completion/completions/relayd-supervised": False,
+            "/opt/relayd/share/fish/vendor_completions.d/relayd-supervised.fish": False,
             "/opt/relayd/share/fish/vendor_completions.d/relayd.fish": False,
             "/opt/relayd/share/man/man1/relayd-supervised.1": False,
             "/opt/relayd/share/man/man1/relayd.1": False,
@@ -95,6 +97,8 @@ class Packaged(harness.Suite):
                 "/lib/systemd/system/relayd-metrics@.timer",
                 "/usr/share/relayd/report_to_graphite.py",
                 "/usr/share/bash-completion/completions/relayd", "/usr/share/zsh/vendor-completions/_relayd",
+                "/usr/share/bash-completion/completions/relayd-supervised",
+                "/usr/share/fish/vendor_completions.d/relayd-supervised.fish",
                 "/usr/share/fish/vendor_completions.d/relayd.fish", "/usr/share/man/man1/relayd-supervised.1.gz",
                 "/usr/share/man/man1/relayd.1.gz", "/usr/share/man/man5/relay.conf.5.gz"), False))
         pages = [os.path.join(place, name) for place in ("docs", "examples", "examples/tls", "examples/two-relays")

@@ -134,7 +134,7 @@ class UpToDate(harness.Suite):
         # What is asked of the program itself, or of each command.
         words = set().union(*(words for command, words in found if not command))
         helps = harness.run(("-h",)).out.decode()
-        self.assertEqual(words - {"-supervised"}, set(re.findall(r"(?m)^ +(-\w), (?=--)", helps))
+        self.assertEqual(words, set(re.findall(r"(?m)^ +(-\w), (?=--)", helps))
                          | set(OPTION.findall(helps)))
 
     def test_files(self):

@@ -53,7 +53,7 @@ class Release(harness.Suite):
     def test_version(self):
         """The program and its man pages have one version: the newest of the changes, or a later one with `-dev`."""
         version = harness.run(("--version",)).out.decode().split()[1]
-        for page in ("packaging/relayd.1", "packaging/relay.conf.5"):
+        for page in ("packaging/relayd.1", "packaging/relayd-supervised.1", "packaging/relay.conf.5"):
             shown = re.findall(r'^\.TH .*"relayd (\S+)"', text_of(page).replace("\\-", "-"), re.MULTILINE)
             self.assertEqual(shown, [version], page)
         headings = re.findall(r"^## (.*?)(?:, \d+ \w+ \d{4})?$", text_of("CHANGELOG.md"), re.MULTILINE)

@@ -1,12 +1,13 @@
 """`packaging/relayd-supervised`: what becomes of signals, by itself, under tini and under runit."""
 
 import contextlib
+import ctypes
 import os
 import shutil
 import signal
 import subprocess
 
-from fixtures.harness import LIMIT, Settings
+from fixtures.harness import LIMIT, Settings, run
 from fixtures.log import Log
 from fixtures.program import TOP
 from fixtures.running import READY, Relay, WithRelays
@@ -16,6 +17,17 @@ SCRIPT = os.path.join(TOP, "packaging", "relayd-supervised")
 FAULT = b"relayd: config: DESTINATIONS: Missing\n"
 GRACE = 10  # seconds until what is left of a case is killed
 SETTLED = READY + b"settled\n"
+KILLED = 128 + signal.SIGKILL
+MANY = ["x"] * 100_000  # words that the script looks at before it starts the relay, which refuses them
+# In place of `relayd`: a relay that answers its admin port, and never ends. It leaves a process that ends later.
+NEVER_ENDS = """#!/bin/sh
+if [ "$1" = run ]; then
+    (sleep 0.1 &)
+    echo ready
+    exec sleep 1000
+fi
+"""
+SET_CHILD_SUBREAPER = 36  # of prctl
 
 
 def said(log, words):
@@ -40,6 +52,14 @@ class Supervised(WithRelays):
         self.env = dict(os.environ, PATH=f"{bin_}{os.pathsep}{os.environ['PATH']}")
         *self.listening, self.admin = free_ports(4)
 
+    def never_ending(self):
+        """The words that run a relay which answers, and never ends."""
+        program = self.folder / "bin" / "relayd"
+        program.unlink()
+        program.write_text(NEVER_ENDS, encoding="ascii")
+        program.chmod(0o755)
+        return [SCRIPT, "--admin", str(self.admin)]
+
     def words(self, **changed):
         """The words that run a relay whose destination is away."""
         dest = f"127.0.0.1:{free_ports(1)[0]}"
@@ -47,11 +67,11 @@ class Supervised(WithRelays):
         return [SCRIPT, *self.given({"config": text, "rules": None}), "--admin", str(self.admin)]
 
     @contextlib.contextmanager
-    def started(self, words):
+    def started(self, words, before=take_signals, **variables):
         """The process of these words; at the end its whole group is gone."""
-        with subprocess.Popen(words, env=self.env, stdin=subprocess.DEVNULL, stdout=subprocess.PIPE,
+        with subprocess.Popen(words, env=self.env | variables, stdin=subprocess.DEVNULL, stdout=subprocess.PIPE,
                               stderr=subprocess.PIPE, bufsize=0, start_new_session=True,
-                              preexec_fn=take_signals) as child:
+                              preexec_fn=before) as child:
             try:
                 yield child
             finally:
@@ -98,6 +118,74 @@ class Supervised(WithRelays):
                 os.kill(child.pid, signal.SIGTERM)
                 self.assertEqual(self.ended(child), (0, SETTLED, b""))
 
+    def test_a_signal_before_there_is_a_relay(self):
+        """SIGTERM ends it before it starts one, and SIGHUP does nothing."""
+        for number, status in ((signal.SIGTERM, 0), (signal.SIGHUP, 2)):
+            with self.subTest(), self.started([SCRIPT, *MANY]) as child:
+                self.wait_for(lambda: catches(child.pid, number) or ticks(child.pid) > 5, "the script runs")
+                os.kill(child.pid, number)
+                self.assertEqual(self.ended(child)[0], status)
+
+    def test_a_second_stop_ends_it_at_once(self):
+        with self.started(self.never_ending()) as child:
+            self.assertEqual(child.stdout.read(len(READY)), READY)
+            os.kill(child.pid, signal.SIGTERM)
+            with self.assertRaises(subprocess.TimeoutExpired):
+                child.wait(1)
+            os.kill(child.pid, signal.SIGTERM)
+            self.assertEqual(self.ended(child)[0], KILLED)
+
+    def test_a_stop_that_takes_too_long(self):
+        """The relay is killed, and a line says so."""
+        with self.started(self.never_ending(), RELAYD_STOP_SECONDS="2") as child:
+            self.assertEqual(child.stdout.read(len(READY)), READY)
+            os.kill(child.pid, signal.SIGTERM)
+            line = b"relayd-supervised: the relay has not ended after 2 s, and is killed\n"
+            status, _, err = self.ended(child)
+            self.assertEqual(status, KILLED)
+            self.assertTrue(err.startswith(line), err)
+
+    def test_a_time_that_a_stop_may_not_have(self):
+        """A drain would always be cut short, and its datapoints lost."""
+        for seconds, drain, why in (("9", "10", "is 9, and must be greater than the seconds of --drain, 10"),
+                                    ("0", "0", "is 0, and may be 1 to 99999"), ("5s", "0", "is 5s, and may be 1 to 99999")):
+            with self.subTest(), self.started([*self.words(), "--drain", drain], RELAYD_STOP_SECONDS=seconds) as child:
+                self.assertEqual(self.ended(child), (2, b"", f"relayd-supervised: RELAYD_STOP_SECONDS {why}\n".encode()))
+        with self.started([*self.words(), "--drain=60"]) as child:
+            self.ready(child)
+            os.kill(child.pid, signal.SIGTERM)
+            self.assertEqual(self.ended(child), (0, b"settled\n", b""))
+
+    def test_what_others_leave(self):
+        """As the first process of a container it takes the status of each process whose parent has ended."""
+        def before():
+            take_signals()
+            ctypes.CDLL(None).prctl(SET_CHILD_SUBREAPER, 1)
+
+        with self.started(self.never_ending(), before) as child:
+            self.assertEqual(child.stdout.read(len(READY)), READY)
+            self.wait_for(lambda: len(children(child.pid)) == 1, "the process that the relay left is gone")
+            os.kill(child.pid, signal.SIGTERM)
+            os.kill(child.pid, signal.SIGTERM)
+
+    def test_help(self):
+        with self.started([SCRIPT, "--help"]) as child:
+            status, out, err = self.ended(child)
+        self.assertEqual((status, err), (0, b""))
+        self.assertIn(b"RELAYD_STOP_SECONDS", out)
+        self.assertTrue(out.endswith(run(("run", "--help")).out.replace(os.path.basename(Settings.relayd).encode(), b"relayd")))
+
+    def test_a_hangup_before_it_is_ready(self):
+        """The relay reads its files again once it is ready, since they may have changed after it read them."""
+        with self.started([*self.words(MAX_QUEUE_SIZE="1000000"), "--log"]) as child:
+            self.wait_for(lambda: children(child.pid), "it has begun")
+            os.kill(child.pid, signal.SIGHUP)
+            log = Log(child.stderr)
+            self.wait_for(lambda: said(log, b"relay reloaded:") == 1, "it has read them")
+            self.assertEqual(said(log, b"relayd: "), 0)
+            os.kill(child.pid, signal.SIGTERM)
+            self.assertEqual(child.wait(LIMIT), 0)
+
     def test_a_hangup(self):
         """The relay reads its files again, and says why it goes on as it was if they have a fault."""
         words = self.words()
@@ -131,7 +219,7 @@ class Supervised(WithRelays):
         with self.started(self.words()) as child:
             self.ready(child)
             os.kill(children(child.pid)[0], signal.SIGKILL)
-            self.assertEqual(self.ended(child)[0], 128 + signal.SIGKILL)
+            self.assertEqual(self.ended(child)[0], KILLED)
 
     def test_under_tini(self):
         """The first process of many containers: it hands signals on, and ends with the status."""
@@ -180,3 +268,16 @@ def children(process):
     """The numbers of its children."""
     with open(f"/proc/{process}/task/{process}/children", encoding="ascii") as file:
         return [int(number) for number in file.read().split()]
+
+
+def catches(process, number):
+    """Whether a process has said what becomes of a signal."""
+    with open(f"/proc/{process}/status", encoding="ascii") as file:
+        mask = next(line for line in file if line.startswith("SigCgt:"))
+    return int(mask.split()[1], 16) >> (number - 1) & 1 == 1
+
+
+def ticks(process):
+    """How long a process has had a processor, in hundredths of a second."""
+    with open(f"/proc/{process}/stat", encoding="ascii") as file:
+        return int(file.read().rpartition(")")[2].split()[11])
