@@ -39,8 +39,8 @@ def rows_of(path):
 
 
 def label_of(row):
-    """A relay's name, with what it lost where it lost something."""
-    return row["relay"] + (f"\\n({int(row['lost']):,} lost)" if int(row["lost"]) else "")
+    """A relay's name, with what it lost where it lost something. gnuplot prints %% as a percent sign."""
+    return row["relay"] + (f"\\n({row['lost %']} %% lost)" if float(row["lost %"]) else "")
 
 
 def plot(title, scene, rows, column, factor):

@@ -35,17 +35,17 @@ def ratios(ours, other):
 
 def cells(text, ours, row):
     """A row of the page."""
-    lost = int(row["lost"])
-    return [text, row["relay"], *ratios(ours, row), f"{int(row['datapoints a second']):,}",
-            row["processor seconds a million"], row["megabytes"], f"{lost:,}" if lost else "none"]
+    middle, least, most = (f"{int(row[column]):,}" for column in ("datapoints a second", "least", "most"))
+    return [text, row["relay"], *ratios(ours, row), middle, f"{least} to {most}", row["processor seconds a million"],
+            row["megabytes"], f"{row['lost %']} %" if float(row["lost %"]) else "none"]
 
 
 def main():
     """Prints."""
     if len(sys.argv) != 2:
         sys.exit(__doc__.strip())
-    print("| Scene | Relay | Times | Processor | Datapoints a second | Processor seconds a million | MB | Lost |")
-    print("|---|---|---|---|---|---|---|---|")
+    print("| Scene | Relay | Times | Processor | Datapoints a second | Least to most | Processor seconds a million | MB | Lost |")
+    print("|---|---|---|---|---|---|---|---|---|")
     for scene, rows in scenes_of(sys.argv[1]).items():
         ours = rows.pop(OURS)
         for text, row in [(SCENES[scene].text, ours), *(("", row) for row in rows.values())]:

@@ -10,6 +10,7 @@ from shared import DATA
 
 HOST = "127.0.0.1"
 LINE_PORT, PICKLE_PORT, UDP_PORT, ADMIN_PORT = 22003, 22004, 22005, 22006
+STARTS = 3
 TICKS = os.sysconf("SC_CLK_TCK")
 
 
@@ -72,6 +73,7 @@ class Relay:
     """A relay's process."""
 
     name = "none"
+    tolerance = 0  # which part of a store's share may go elsewhere than by carbon's ring
 
     def __init__(self, plan):
         self.plan = plan
@@ -86,13 +88,22 @@ class Relay:
             file.write(text)
         return path
 
-    def __enter__(self):
-        out = open(os.path.join(self.folder, "output"), "wb")
-        self.process = subprocess.Popen(self.words(), stdin=subprocess.DEVNULL, stdout=out, stderr=subprocess.STDOUT)
-        if not wait_for_port(LINE_PORT):
-            self.end()
-            raise RuntimeError(f"{self.name} does not listen")
+    def begin(self):
+        """Starts the process, and says whether it listens and outlives its first connection."""
+        with open(os.path.join(self.folder, "output"), "wb") as out:
+            self.process = subprocess.Popen(self.words(), stdin=subprocess.DEVNULL, stdout=out, stderr=subprocess.STDOUT)
+        listens = wait_for_port(LINE_PORT)
         time.sleep(0.5)
+        if listens and self.process.poll() is None:
+            return True
+        self.process.kill()
+        self.process.wait()
+        return False
+
+    def __enter__(self):
+        # carbon-c-relay crashes now and then as it starts.
+        if not any(self.begin() for _ in range(STARTS)):
+            raise RuntimeError(f"{self.name} does not listen")
         return self
 
     def __exit__(self, *_):
@@ -189,13 +200,12 @@ UDP_RECEIVER_PORT = {UDP_PORT}
 
 
 class CarbonCRelay(Relay):
-    """carbon-c-relay, as Debian packages it, with two workers and the queue of the plan."""
+    """carbon-c-relay, as Debian packages it."""
 
-    name = "carbon-c-relay, 2 workers"
-
-    def tuning(self):
-        """Its options for workers and queues."""
-        return ["-q", str(self.plan.queue), "-b", "2500", "-w", "2"]
+    peer = name = "carbon-c-relay"
+    workers, roomy = 2, False
+    # Where two of its nodes have one position on the ring, it places them a little differently from carbon.
+    tolerance = 0.01
 
     @staticmethod
     def missing():
@@ -203,7 +213,8 @@ class CarbonCRelay(Relay):
 
     def words(self):
         plan = self.plan
-        ends = "\n    ".join(f"{HOST}:{port}" for port in plan.stores)
+        # Without an instance the members of one host would have one place on the ring.
+        ends = "\n    ".join(f"{HOST}:{port}=s{port}" for port in plan.stores)
         kind = f"carbon_ch replication {plan.replicas}" if plan.replicas else "forward"
         text = f"cluster all\n  {kind}\n    {ends}\n  ;\n"
         if plan.rewriting:
@@ -212,25 +223,24 @@ class CarbonCRelay(Relay):
             text += f"match {pattern}\n  send to all\n  stop\n  ;\n"
         text += "match *\n  send to all\n  ;\n"
         config = self.write("relay.conf", text)
-        return ["carbon-c-relay", "-f", config, "-p", str(LINE_PORT), "-s", *self.tuning()]
+        queue = max(plan.room, plan.queue) if self.roomy else plan.queue
+        return ["carbon-c-relay", "-f", config, "-p", str(LINE_PORT), "-s", "-w", str(self.workers), "-q", str(queue)]
 
 
-class CarbonCRelayAsItComes(CarbonCRelay):
-    """The same without options: a worker for each core, and a queue of 25,000."""
+def way_of_carbon_c_relay(count, without_loss):
+    """carbon-c-relay with a number of workers, and the queue of the plan or one in which nothing is dropped."""
 
-    name = "carbon-c-relay, as is"
+    class Way(CarbonCRelay):
+        """One way to run it."""
 
-    def tuning(self):
-        return []
+        name = f"carbon-c-relay, {count} worker{'s' * (count > 1)}{', roomy' * without_loss}"
+        workers, roomy = count, without_loss
+
+    return Way
 
 
-class CarbonCRelayRoomy(CarbonCRelay):
-    """The same with a worker for each core, and a queue in which nothing is dropped."""
-
-    name = "carbon-c-relay, roomy"
-
-    def tuning(self):
-        return ["-q", str(max(self.plan.room, self.plan.queue))]
+WAYS_WITH_QUEUE = tuple(way_of_carbon_c_relay(count, False) for count in (1, 2, 4))
+WAYS = (*WAYS_WITH_QUEUE, *(way_of_carbon_c_relay(count, True) for count in (1, 2, 4)))
 
 
 class CarbonRelay(Relay):

@@ -18,7 +18,7 @@ import resource
 import statistics
 
 from peers import Relayd
-from relaying import STORES, Plan, Scene, build, line_file, measure
+from relaying import STORES, Plan, Scene, build, measure
 from shared import demand, missing, options
 
 RECEIVERS, SENDERS = (1, 2, 3), (1, 2)
@@ -39,10 +39,10 @@ def relay_with(receivers, count):
     return Shared
 
 
-def measure_with_others(scene, kind, files):
+def measure_with_others(scene, kind):
     """One round, and the processors that the producers and stores kept busy and that all did, while datapoints came."""
     before = resource.getrusage(resource.RUSAGE_CHILDREN)
-    row = measure(scene, kind, files)
+    row = measure(scene, kind)
     if isinstance(row, str):
         return row
     after = resource.getrusage(resource.RUSAGE_CHILDREN)
@@ -63,14 +63,13 @@ def main():
     Relayd.program = given.relayd
     build()
     scene = Scene("eight producers, a ring of four", Plan(STORES, replicas=1, queue=1_000_000), given.times, 8)
-    files = {"lines": line_file()}
     print(f"{scene.text}; {scene.sent():,} datapoints sent, {given.rounds} rounds of each, {os.cpu_count()} processors",
           flush=True)
     kinds = {(receivers, senders): relay_with(receivers, senders) for senders in SENDERS for receivers in RECEIVERS}
     rows = {key: [] for key in kinds}
     for i in range(given.rounds):
         for key in kinds if i % 2 == 0 else reversed(kinds):
-            row = measure_with_others(scene, kinds[key], files)
+            row = measure_with_others(scene, kinds[key])
             if isinstance(row, str):
                 missing(f"{key[0]} receivers, {key[1]} senders: the relay {row}")
             rows[key].append(row)

@@ -1,21 +1,32 @@
 #!/usr/bin/env python3
 """The running relay beside carbon-c-relay and carbon-relay, in turn in one run.
 
-    python3 bench/relaying.py [--relayd PATH] [--rounds N] [--table FILE] [SCENE ..]
+    python3 bench/relaying.py [--relayd PATH] [--rounds N] [--seconds N] [--table FILE] [SCENE ..]
 
 The same generator (`bench/producer.c`) sends the same bytes to each, and the
 same stores (`bench/store.c`) count what comes out; `direct` is the generator
-at the stores, with nothing between. For each the median round is printed: how
-many datapoints arrived a second, from the first byte sent until the last that
-came; processor seconds of the relay for a million that arrived; its peak
-memory; and how many were lost of those that were to arrive. Where a scene has
-a bar, a line says whether the medians held it; further lines have the processor
-time of each peer as a multiple of relayd's, which is steadier than datapoints a
-second. A relay that takes or gives too slowly is ended, and the round says so.
---table writes the medians to a file too, from which `bench/draw.py` draws and
-`bench/page.py` prints the table of docs/BENCH.md.
+at the stores, with nothing between.
+
+carbon-c-relay has many ways to run. Each is tried once, and the one that hands
+on most without a loss is measured. From the trials a round also gets its length,
+at least --seconds. On a ring each way first relays each name once, and the
+counts of the stores must be those of carbon's own router (`bench/spread.py`);
+otherwise the run fails, since a relay that gives one store everything does other
+work. The counts of each round are looked at too.
+
+For each relay the medians of the rounds are printed: how many datapoints arrived
+a second, from the first byte sent until the last that came, with the least and
+the most of the rounds; processor seconds of the relay for a million that arrived;
+its peak memory; and which part was lost of those that were to arrive. Where a
+scene has a bar, a line says whether the medians held it; further lines have what
+relayd handed on and the processor time of each peer as multiples. A relay that
+takes or gives too slowly is ended, and the round says so. --table writes the
+medians to a file too, from which `bench/draw.py` draws and `bench/page.py` prints
+the table of docs/BENCH.md.
 """
 
+import copy
+import math
 import os
 import pickle
 import shutil
@@ -25,9 +36,10 @@ import struct
 import subprocess
 import time
 
-from peers import (CarbonCRelay, CarbonCRelayAsItComes, CarbonCRelayRoomy, CarbonRelay, HOST, LINE_PORT, NoRelay,
-                   PICKLE_PORT, Plan, Relayd, UDP_PORT)
+from peers import (CarbonCRelay, CarbonRelay, HOST, LINE_PORT, NoRelay, PICKLE_PORT, Plan, Relayd, UDP_PORT, WAYS,
+                   WAYS_WITH_QUEUE)
 from shared import DATA, HERE, demand, missing, options
+from spread import counts_by_store
 
 STORES = [22101, 22102, 22103, 22104]
 NAMES = 20_000
@@ -35,6 +47,7 @@ FEW_NAMES = 4_000  # of each connection where there are many
 FRESH_NAMES = 1_000_000  # each of which comes once
 STAMP = 1_700_000_000
 PATIENCE = 60  # seconds within which a relay is to take what is sent, and as many again to hand it on
+CHANCE = 0.05  # by how much a store's share of many names may differ from its share of the first 20,000
 
 
 def build():
@@ -49,15 +62,17 @@ def build():
 
 def names(count=NAMES):
     """The first `count` metric names."""
-    return [f"servers.web{i % 97:02d}.cpu{i % 8}.metric{i:05d}" for i in range(count)]
+    return (f"servers.web{i % 97:02d}.cpu{i % 8}.metric{i:05d}" for i in range(count))
 
 
 def line_file(count=NAMES):
     """A file with a line for each of the first `count` names."""
     path = os.path.join(DATA, f"relayed-{count}.txt")
-    with open(path, "w", encoding="ascii") as file:
-        for i, name in enumerate(names(count)):
-            file.write(f"{name} {i * 7} {STAMP + i % 60}\n")
+    if not os.path.exists(path):
+        with open(f"{path}.new", "w", encoding="ascii") as file:
+            for i, name in enumerate(names(count)):
+                file.write(f"{name} {i * 7} {STAMP + i % 60}\n")
+        os.replace(f"{path}.new", path)
     return path
 
 
@@ -94,8 +109,8 @@ class Stores:
         self.process.communicate()
 
     def result(self, seconds):
-        """How many lines the store got in all, when it got the last, and whether it got all, or none for a while, within
-        this number of seconds."""
+        """How many lines each store got, when the last came, and whether all came, or none for a while, within this number
+        of seconds."""
         in_time = True
         try:
             self.process.wait(seconds)
@@ -103,7 +118,7 @@ class Stores:
             in_time = False
         # The end of their input ends the stores, if nothing has yet.
         rows = self.process.communicate(timeout=10)[0].split("\n")
-        lines = sum(int(row.split()[1]) for row in rows if row and not row.startswith("at"))
+        lines = [int(row.split()[1]) for row in rows if row and not row.startswith("at")]
         at = next(int(row.split()[1]) for row in rows if row.startswith("at"))
         return lines, at, in_time
 
@@ -111,9 +126,10 @@ class Stores:
 class Scene:
     """One thing that is measured."""
 
-    def __init__(self, text, plan, times, connections=1, kind="lines", rate=None, relays=(), stalled=(), bar=None):
+    def __init__(self, text, plan, times, connections=1, kind="lines", rate=None, peers=(), stalled=(), bar=None):
         self.text, self.plan, self.times, self.connections = text, plan, times, connections
-        self.kind, self.rate, self.relays, self.stalled = kind, rate, relays, stalled
+        self.kind, self.rate, self.stalled = kind, rate, stalled
+        self.peers = peers  # the ways to run each relay
         self.bar = bar  # how many datapoints a second this relay is to hand on, at least
         plan.room = self.sent() * max(plan.replicas, 1)
 
@@ -128,16 +144,29 @@ class Scene:
             return None if self.stalled else self.sent() * self.plan.replicas
         return self.sent() * (len(self.plan.stores) - len(self.stalled))
 
+    def repeated(self, times, connections=None, kind=None):
+        """The same with another number of datapoints."""
+        return Scene(self.text, copy.copy(self.plan), times, connections or self.connections, kind or self.kind,
+                     self.rate, self.peers, self.stalled, self.bar)
 
-def producer_words(scene, relay, files):
+    def file(self):
+        """What each connection sends, and how often. A name that comes once is sent once."""
+        if self.kind == "fresh lines":
+            return line_file(FRESH_NAMES * self.times), 1
+        if self.kind == "pickles":
+            return pickle_file(), self.times
+        return line_file(FEW_NAMES if self.kind == "few lines" else NAMES), self.times
+
+
+def producer_words(scene, relay):
     """The generator's command line for a scene."""
     producer = os.path.join(DATA, "producer")
+    path, times = scene.file()
     if scene.rate:
         port = getattr(relay, "datagram_port", UDP_PORT)
-        return [producer, "udp", str(port), str(scene.rate), str(scene.times), files["lines"]]
+        return [producer, "udp", str(port), str(scene.rate), str(times), path]
     port = PICKLE_PORT if scene.kind == "pickles" else LINE_PORT
-    return [producer, "tcp", str(getattr(relay, "port", port)), str(scene.connections), str(scene.times),
-            files[scene.kind]]
+    return [producer, "tcp", str(getattr(relay, "port", port)), str(scene.connections), str(times), path]
 
 
 def store_word(scene, kind, port):
@@ -158,16 +187,29 @@ def send(words):
     return int(sender.stdout.split()[1]), None
 
 
-def measure(scene, kind, files):
+def demand_spread(scene, kind, counts, lost):
+    """Ends the run where a store of a ring got more than carbon's ring gives it, or less although nothing was lost."""
+    shares = counts_by_store(names(NAMES), scene.plan, Relayd.program)
+    tolerance = CHANCE if scene.kind == "fresh lines" else kind.tolerance
+    for port, count, share in zip(scene.plan.stores, counts, shares):
+        wanted = share * scene.sent() / NAMES
+        if count > wanted * (1 + tolerance) or not lost and count < wanted * (1 - tolerance):
+            missing(f"{kind.name} gave the stores {counts} of {scene.sent():,} datapoints, and carbon's ring of "
+                    f"{NAMES:,} names {shares}: see the store at {port}")
+
+
+def measure(scene, kind):
     """One round: datapoints a second, processor seconds for a million, peak memory and lost; or what went wrong."""
     expected = scene.expected()
     words = [store_word(scene, kind, port) for port in scene.plan.stores]
+    generator = producer_words(scene, kind)
     stores = Stores(expected or 2**62, words)
     try:
         with kind(scene.plan) as relay:
             before = relay.processor_seconds()
-            began, trouble = send(producer_words(scene, relay, files))
-            lines, at, in_time = stores.result(0 if trouble else PATIENCE)
+            began, trouble = send(generator)
+            counts, at, in_time = stores.result(0 if trouble else PATIENCE)
+            lines = sum(counts)
             if not trouble and not in_time:
                 trouble = f"did not hand on all within {PATIENCE} seconds more"
             if trouble:
@@ -175,52 +217,102 @@ def measure(scene, kind, files):
             used, peak = relay.processor_seconds() - before, relay.peak_memory()
     finally:
         stores.end()
+    lost = (expected or lines) - lines
+    if scene.plan.replicas:
+        demand_spread(scene, kind, counts, lost)
     seconds = (at - began) / 1e9
-    return lines / seconds, used * 1e6 / max(lines, 1), peak, (expected or lines) - lines
+    return lines / seconds, used * 1e6 / max(lines, 1), peak, lost
 
 
-def show(scene, files, rounds):
+def check_spread(scene, kind):
+    """Lets a relay relay each name once, slowly enough to lose none, and looks at which store got how many."""
+    row = measure(scene.repeated(1, 1, "lines"), kind)
+    if isinstance(row, str) or row[3]:
+        missing(f"{kind.name} is to relay {NAMES:,} names once, and {row if isinstance(row, str) else f'lost {row[3]:,}'}")
+
+
+def repeated_for(scene, row, seconds):
+    """The scene with so many datapoints that a round takes this many seconds, by the trial of it."""
+    took = (scene.expected() - row[3]) / row[0]
+    return scene.repeated(math.ceil(scene.times * max(seconds / took, 1)))
+
+
+def chosen_way(scene, ways):
+    """The way to run a relay that hands on most a second of those that lose nothing, with its trial; none where each
+    had trouble."""
+    trials = []
+    for way in ways:
+        if scene.plan.replicas:
+            check_spread(scene, way)
+        row = measure(scene, way)
+        if isinstance(row, str):
+            print(f"  {way.name:32} {row}, and was ended", flush=True)
+        else:
+            trials.append((way, row))
+            if len(ways) > 1:
+                print(f"  {way.name:32} {row[0]:12,.0f} /s in a trial, {row[3]:,} lost", flush=True)
+    return max(trials, key=lambda trial: (trial[1][3] == 0, trial[1][0]), default=None)
+
+
+def chosen_ways(scene, seconds):
+    """The best way to run each relay of a scene, with the scene at its length."""
+    for ways in scene.peers:
+        if reason := ways[0].missing():
+            print(f"  {ways[0].name}: left out, {reason}")
+        elif found := chosen_way(scene, ways):
+            way, row = found
+            yield way, repeated_for(scene, row, seconds)
+
+
+def show_row(scene, name, row, rates):
+    """A relay's medians, and whether they hold the bar of the scene."""
+    rate, used, peak, lost = row
+    print(f"  {name:32} {rate:12,.0f} /s ({min(rates):,.0f} to {max(rates):,.0f})  {used:7.2f} s CPU a million  "
+          f"{peak / 1024:7.1f} MB  {lost:.2%} lost", flush=True)
+    if scene.bar and name == Relayd.name:
+        print(f"  at least {scene.bar:,} a second, none lost: {'held' if rate >= scene.bar and not lost else 'missed'}",
+              flush=True)
+
+
+def show(scene, rounds, seconds):
     """Measures a scene with each of its relays in turn, some times, and prints the medians.
 
     A relay that was ended in a round has no further one.
     """
-    print(f"\n{scene.text}; {scene.sent():,} datapoints sent", flush=True)
-    relays = [relay for relay in scene.relays if relay.missing() is None]
-    for relay in scene.relays:
-        if reason := relay.missing():
-            print(f"  {relay.name}: left out, {reason}")
-    found = {relay.name: [] for relay in relays}
+    print(f"\n{scene.text}", flush=True)
+    chosen = list(chosen_ways(scene, seconds))
+    found = {way.name: [] for way, _ in chosen}
     for _ in range(rounds):
-        for relay in relays:
-            if not any(isinstance(row, str) for row in found[relay.name]):
-                found[relay.name].append(measure(scene, relay, files))
+        for way, longer in chosen:
+            rows = found[way.name]
+            if not any(isinstance(row, str) for row in rows):
+                row = measure(longer, way)
+                rows.append(row if isinstance(row, str) else (*row[:3], row[3] / longer.expected()))
     medians = {}
     for name, rows in found.items():
         for trouble in (row for row in rows if isinstance(row, str)):
-            print(f"  {name:25} {trouble}, and was ended", flush=True)
+            print(f"  {name:32} {trouble}, and was ended", flush=True)
         rows = [row for row in rows if not isinstance(row, str)]
-        if not rows:
-            continue
-        medians[name] = rate, used, peak, lost = [statistics.median(column) for column in zip(*rows)]
-        print(f"  {name:25} {rate:12,.0f} /s  {used:7.2f} s CPU a million  {peak / 1024:7.1f} MB  "
-              f"{lost:,.0f} lost", flush=True)
-        if scene.bar and name == Relayd.name:
-            print(f"  at least {scene.bar:,} a second, none lost: {'held' if rate >= scene.bar and not lost else 'missed'}",
-                  flush=True)
-    for name, (_, used, _, _) in medians.items():
-        if name.startswith("carbon") and Relayd.name in medians and medians[Relayd.name][1]:
-            print(f"  {name} took {used / medians[Relayd.name][1]:.1f} times relayd's processor time for a datapoint that "
-                  "arrived", flush=True)
+        if rows:
+            row, rates = [statistics.median(column) for column in zip(*rows)], [row[0] for row in rows]
+            medians[name] = (*row, min(rates), max(rates))
+            show_row(scene, name, row, rates)
+    ours = medians.get(Relayd.name)
+    for name, (rate, used, *_) in medians.items():
+        if name.startswith("carbon") and ours:
+            print(f"  relayd hands on {ours[0] / rate:.2f} times as much as {name}, with {ours[1] / used:.2f} of its "
+                  "processor time for a datapoint that arrived", flush=True)
     return medians
 
 
 def write_table(path, scenes):
     """The medians of scenes, a row for each relay, as `bench/draw.py` and `bench/page.py` read them."""
     with open(path, "w", encoding="ascii") as file:
-        file.write("scene\trelay\tdatapoints a second\tprocessor seconds a million\tmegabytes\tlost\n")
+        file.write("scene\trelay\tdatapoints a second\tleast\tmost\tprocessor seconds a million\tmegabytes\tlost %\n")
         for scene, medians in scenes.items():
-            for name, (rate, used, peak, lost) in medians.items():
-                file.write(f"{scene}\t{name}\t{rate:.0f}\t{used:.2f}\t{peak / 1024:.1f}\t{lost:.0f}\n")
+            for name, (rate, used, peak, lost, least, most) in medians.items():
+                file.write(f"{scene}\t{name}\t{rate:.0f}\t{least:.0f}\t{most:.0f}\t{used:.2f}\t{peak / 1024:.1f}\t"
+                           f"{lost * 100:.2f}\n")
 
 
 def latency(kind, count=2000, seconds=20):
@@ -253,9 +345,8 @@ def full_queue(kind):
     """Peak memory in MB with 1,000,000 datapoints queued for a store that does not read."""
     plan = Plan(STORES[:1], queue=1_000_000)
     stores = Stores(2**62, [f"-{STORES[0]}"])
-    files = {"lines": line_file()}
     with kind(plan) as relay:
-        subprocess.run([os.path.join(DATA, "producer"), "tcp", str(LINE_PORT), "1", "60", files["lines"]],
+        subprocess.run([os.path.join(DATA, "producer"), "tcp", str(LINE_PORT), "1", "60", line_file()],
                        stdout=subprocess.DEVNULL, check=True)
         time.sleep(1)
         peak = relay.peak_memory()
@@ -263,33 +354,47 @@ def full_queue(kind):
     return peak / 1024
 
 
-PAIR = (Relayd, CarbonCRelay)
-ALL = (*PAIR, CarbonCRelayAsItComes, CarbonCRelayRoomy)
+DIRECT, OURS = (Direct,), (Relayd,)
+BOTH = (OURS, WAYS)
 SCENES = {
-    "one": Scene("one producer, one store", Plan(STORES[:1]), 100, relays=(Direct, *ALL), bar=1_000_000),
-    "short": Scene("one producer, one store, a queue of 10,000", Plan(STORES[:1], queue=10_000), 100, relays=PAIR,
-                   bar=1_000_000),
-    "ring": Scene("eight producers, a ring of four", Plan(STORES, replicas=1), 15, 8, relays=ALL, bar=1_500_000),
-    "copies": Scene("eight producers, a ring of four, two copies", Plan(STORES, replicas=2), 10, 8, relays=ALL),
-    "fresh": Scene("names that come once, one producer, a ring of four", Plan(STORES, replicas=1), 1, kind="fresh lines",
-                   relays=ALL),
+    "one": Scene("one producer, one store", Plan(STORES[:1]), 100, peers=(DIRECT, *BOTH), bar=1_000_000),
+    "short": Scene("one producer, one store, a queue of 10,000", Plan(STORES[:1], queue=10_000), 100,
+                   peers=(OURS, WAYS_WITH_QUEUE), bar=1_000_000),
+    "ring": Scene("eight producers, a ring of four", Plan(STORES, replicas=1), 15, 8, peers=BOTH, bar=1_500_000),
+    "copies": Scene("eight producers, a ring of four, two copies", Plan(STORES, replicas=2), 10, 8, peers=BOTH),
+    "fresh": Scene("names that come once, one producer, a ring of four", Plan(STORES, replicas=1), 1,
+                   kind="fresh lines", peers=BOTH),
     "pickles": Scene("pickles of 500, one producer, one store", Plan(STORES[:1]), 20, kind="pickles",
-                     relays=(Relayd, CarbonRelay)),
-    "rules": Scene("20 relay rules, one producer, one store", Plan(STORES[:1], rules=20), 50, relays=ALL),
-    "rewriting": Scene("a rewrite rule, one producer, one store", Plan(STORES[:1], rewriting=True), 50, relays=ALL),
+                     peers=(OURS, (CarbonRelay,))),
+    "rules": Scene("20 relay rules, one producer, one store", Plan(STORES[:1], rules=20), 50, peers=BOTH),
+    "rewriting": Scene("a rewrite rule, one producer, one store", Plan(STORES[:1], rewriting=True), 50, peers=BOTH),
     "datagrams": Scene("datagrams at 50,000 a second, one store", Plan(STORES[:1], udp=True), 10, rate=50_000,
-                       relays=(Direct, Relayd), bar=49_000),
+                       peers=(DIRECT, OURS), bar=49_000),
     "many": Scene("1,000 connections, one store", Plan(STORES[:1], queue=1_000_000), 1, 1000, kind="few lines",
-                  relays=ALL),
+                  peers=BOTH),
     "stalled": Scene("one of four stores does not read, each gets all", Plan(STORES), 25, stalled=STORES[3:],
-                     relays=ALL),
+                     peers=BOTH),
 }
+
+
+def show_beside(name):
+    """Prints what is measured of a relay at rest, and of one with a full queue."""
+    for kind in (Relayd, CarbonCRelay):
+        if kind.missing() is not None:
+            continue
+        if name == "latency":
+            middle, late = latency(kind)
+            print(f"\nlatency at rest, {kind.name}: {middle:.2f} ms at the 50th percentile, {late:.2f} ms at the 99th",
+                  flush=True)
+        else:
+            print(f"\npeak memory with 1,000,000 queued, {kind.name}: {full_queue(kind):.0f} MB", flush=True)
 
 
 def main():
     """Measures what is asked for."""
     parser = options(__doc__.split("\n", 1)[0], "--relayd", "relayd")
     parser.add_argument("--senders", type=int, default=1)
+    parser.add_argument("--seconds", type=float, default=10, help="how long a round takes at least")
     parser.add_argument("--table", metavar="FILE", help="writes the medians to this file too")
     parser.set_defaults(rounds=3)
     parser.add_argument("scenes", metavar="SCENE", nargs="*")
@@ -297,25 +402,15 @@ def main():
     demand(given.relayd)
     Relayd.program, Relayd.senders = given.relayd, given.senders
     build()
-    files = {"lines": line_file(), "few lines": line_file(FEW_NAMES), "fresh lines": line_file(FRESH_NAMES),
-             "pickles": pickle_file()}
+    beside = ["latency", "memory"]
     found = {}
-    chosen = given.scenes or [*SCENES, "latency", "memory"]
-    for name in chosen:
-        if name == "latency":
-            for kind in PAIR:
-                if kind.missing() is None:
-                    middle, late = latency(kind)
-                    print(f"\nlatency at rest, {kind.name}: {middle:.2f} ms at the 50th percentile, "
-                          f"{late:.2f} ms at the 99th", flush=True)
-        elif name == "memory":
-            for kind in PAIR:
-                if kind.missing() is None:
-                    print(f"\npeak memory with 1,000,000 queued, {kind.name}: {full_queue(kind):.0f} MB", flush=True)
-        elif name in SCENES:
-            found[name] = show(SCENES[name], files, given.rounds)
+    for name in given.scenes or [*SCENES, *beside]:
+        if name in SCENES:
+            found[name] = show(SCENES[name], given.rounds, given.seconds)
+        elif name in beside:
+            show_beside(name)
         else:
-            missing(f"there is no scene {name}; there are {', '.join([*SCENES, 'latency', 'memory'])}")
+            missing(f"there is no scene {name}; there are {', '.join([*SCENES, *beside])}")
     if given.table:
         write_table(given.table, found)
 

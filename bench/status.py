@@ -19,7 +19,7 @@ import statistics
 import threading
 
 from peers import HOST, Relayd
-from relaying import STORES, Plan, Scene, build, line_file, measure
+from relaying import STORES, Plan, Scene, build, measure
 from shared import demand, missing, options
 
 STATUS_PORT = 22007
@@ -89,13 +89,12 @@ def main():
     Relayd.program = given.relayd
     build()
     scene = Scene("one producer, one store, relayd run --status", Plan(STORES[:1], queue=1_000_000), given.times)
-    files = {"lines": line_file()}
     print(f"{scene.text}; {scene.sent():,} datapoints sent, {given.rounds} rounds of each", flush=True)
     kinds = (Unasked, Asked)
     rows = {kind: [] for kind in kinds}
     for i in range(given.rounds):
         for kind in kinds if i % 2 == 0 else reversed(kinds):
-            row = measure(scene, kind, files)
+            row = measure(scene, kind)
             if isinstance(row, str):
                 missing(f"{kind.name}: the relay {row}")
             rows[kind].append(row)

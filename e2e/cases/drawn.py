@@ -11,14 +11,14 @@ import xml.etree.ElementTree as xml
 from fixtures import harness
 from fixtures.program import TOP
 
-TABLE = """scene	relay	datapoints a second	processor seconds a million	lost
-one	direct	2500000	0.00	0
-one	relayd	1600981	0.79	0
-one	carbon-c-relay, 2 workers	137906	5.51	0
-short	relayd	1234567	0.81	0
-ring	relayd	1532505	0.90	0
-ring	carbon-c-relay, 2 workers	151701	15.32	1976897
-ring	carbon-c-relay, roomy	800000	4.25	0
+TABLE = """scene	relay	datapoints a second	processor seconds a million	lost %
+one	direct	2500000	0.00	0.00
+one	relayd	1600981	0.79	0.00
+one	carbon-c-relay, 2 workers	137906	5.51	0.00
+short	relayd	1234567	0.81	0.00
+ring	relayd	1532505	0.90	0.00
+ring	carbon-c-relay, 4 workers	151701	15.32	49.42
+ring	carbon-c-relay, 4 workers, roomy	800000	4.25	0.00
 """
 RELAYD, OTHER = "27, 108, 168", "176, 176, 176"
 
@@ -50,7 +50,7 @@ class Drawn(harness.Suite):
         for number in ("1.60", "0.14", "1.53", "0.15", "0.80", "0.79", "5.51", "0.90", "15.32", "4.25"):
             self.assertEqual(texts.count(number), 1, (number, texts))
         self.assertEqual(texts.count("relayd"), 4)
-        self.assertEqual(texts.count("(1,976,897 lost)"), 2)
+        self.assertEqual(texts.count("(49.42 % lost)"), 2)
         self.assertNotIn("direct", texts)
         self.assertNotIn("1.23", texts)
         for colour, bars in ((RELAYD, 4), (OTHER, 6)):
@@ -59,5 +59,5 @@ class Drawn(harness.Suite):
 
     def test_none_of_its_scenes(self):
         with tempfile.TemporaryDirectory() as folder:
-            status, _ = self.draw("".join(TABLE.splitlines(True)[:1]) + "short\trelayd\t1\t1\t0\n", folder)
+            status, _ = self.draw("".join(TABLE.splitlines(True)[:1]) + "short\trelayd\t1\t1\t0.00\n", folder)
         self.assertEqual(status, 1)
