@@ -10,6 +10,7 @@
 # make bench      relayd beside other programs, and what its commands cost, in one run; draws docs/bench.svg
 # make install    installs the program, its man pages and its completions below DESTDIR and PREFIX
 # make deb        builds a Debian package with the service, in bin/
+# make image      builds the image of a container, by podman or buildah, with nothing fetched
 # make notices    writes the notices of what the program links: THIRD_PARTY.md and packaging/copyright
 # make deb-test   installs that package on a clean Debian in a folder, looks at it and purges it, and does so where systemd
 #                 has booted there; as root, with debootstrap and systemd-container
@@ -33,7 +34,7 @@ PROGRAM ?= bin/relayd
 of_program := $(if $(filter bin/relayd-quick,$(PROGRAM)),quick,$(filter bin/relayd,$(PROGRAM)))
 driven := $(if $(filter-out bin/relayd,$(PROGRAM)),--relayd $(PROGRAM))
 
-.PHONY: build quick demo check test quick-test e2e hostile edits bench install deb deb-test notices clean
+.PHONY: build quick demo check test quick-test e2e hostile edits bench install deb deb-test image notices clean
 
 build: bin/relayd
 
@@ -126,6 +127,10 @@ deb: bin/relayd
 deb-test: deb
 	@$(needs_python)
 	@python3 packaging/clean_machine.py "bin/relayd_$$(bin/relayd --version | cut -d' ' -f2 | tr - '~')_amd64.deb"
+
+image: bin/relayd
+	@$(call needs,strip,the Debian package binutils has it)
+	@packaging/image.sh bin/relayd
 
 notices:
 	@$(needs_rt)

@@ -54,7 +54,8 @@ def has_carbon():
 
 
 def missing_peers():
-    """The Debian packages that are not there: relays to compare with, programs round a relay, shells, and linters."""
+    """The Debian packages that are not there: relays to compare with, programs round a relay, shells, containers and
+    linters."""
     peers = {
         "graphite-carbon": has_carbon(),
         "python3-whisper": has("whisper"),
@@ -74,6 +75,9 @@ def missing_peers():
         "chromium": shutil.which("chromium") is not None,
         "gnuplot-nox": shutil.which("gnuplot") is not None,
         "lintian": shutil.which("lintian") is not None,
+        "podman": shutil.which("podman") is not None,
+        "runc": shutil.which("runc") is not None,
+        "busybox-static": os.path.exists("/bin/busybox"),
         "gcc": shutil.which("cc") is not None,
         "pyflakes3": shutil.which("pyflakes3") is not None,
         "shellcheck": shutil.which("shellcheck") is not None,

@@ -178,7 +178,8 @@ class Supervised(WithRelays):
     def test_a_hangup_before_it_is_ready(self):
         """The relay reads its files again once it is ready, since they may have changed after it read them."""
         with self.started([*self.words(MAX_QUEUE_SIZE="1000000"), "--log"]) as child:
-            self.wait_for(lambda: children(child.pid), "it has begun")
+            while not children(child.pid):
+                pass
             os.kill(child.pid, signal.SIGHUP)
             log = Log(child.stderr)
             self.wait_for(lambda: said(log, b"relay reloaded:") == 1, "it has read them")
