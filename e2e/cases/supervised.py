@@ -187,6 +187,27 @@ class Supervised(WithRelays):
             os.kill(child.pid, signal.SIGTERM)
             self.assertEqual(child.wait(LIMIT), 0)
 
+    def test_files_that_change(self):
+        """It looks at them, and the relay reads them once they have changed and stay the same; faulty ones once."""
+        with self.started([*self.words(), "--log"], RELAYD_WATCH_SECONDS="1") as child:
+            relay = self.ready(child)
+            log = Log(child.stderr)
+            config = (self.folder / "config").read_text(encoding="ascii")
+            (self.folder / "config").write_text(config + "# changed\n", encoding="ascii")
+            self.wait_for(lambda: said(log, b"relay reloaded:") == 1, "it has read them")
+            (self.folder / "config").write_text("[relay]\n", encoding="ascii")
+            self.wait_for(lambda: said(log, FAULT) == 1, "it says why not")
+            (self.folder / "config").unlink()
+            self.wait_for(lambda: said(log, b"relayd: config: cannot read") == 1, "it says that one is missing")
+            (self.folder / "config").write_text(config, encoding="ascii")
+            self.wait_for(lambda: said(log, b"relay reloaded:") == 2, "it has read the ones that are back")
+            self.assertEqual((said(log, FAULT), relay.totals()["queued"]), (1, 0))
+            os.kill(child.pid, signal.SIGTERM)
+            self.assertEqual(child.wait(LIMIT), 0)
+        with self.started(self.words(), RELAYD_WATCH_SECONDS="0") as child:
+            line = b"relayd-supervised: RELAYD_WATCH_SECONDS is 0, and may be 1 to 99999\n"
+            self.assertEqual(self.ended(child), (2, b"", line))
+
     def test_a_hangup(self):
         """The relay reads its files again, and says why it goes on as it was if they have a fault."""
         words = self.words()
