@@ -1,7 +1,7 @@
 #!/usr/bin/env python3
 """The end-to-end suite: drives the built `relayd` over real pipes, files and devices.
 
-    python3 e2e/run.py [--relayd PATH] [--seed N] [--longer] [NAME ..]
+    python3 e2e/run.py [--relayd PATH] [--seed N] [--longer] [--complete] [NAME ..]
 
 The cases are the files of `e2e/cases/`; each NAME chooses some of them: a
 subject, a class of it or a test, as `routes`, `routes.ByRules` or
@@ -36,6 +36,7 @@ def words():
     parser.add_argument("--seed", type=int,
                         help="the one seed of generated lines (default: a fixed one and a random one)")
     parser.add_argument("--longer", action="store_true", help="the longer form of the cases that have one")
+    parser.add_argument("--complete", action="store_true", help="a case that was skipped since a program is missing has failed")
     parser.add_argument("names", metavar="NAME", nargs="*",
                         help="a subject, a class or a test to run (default: all), as routes or routes.ByRules")
     return parser.parse_args()
@@ -73,6 +74,7 @@ def main():
         print("0 passed, 1 failed")
         return 1
     harness.Settings.longer = given.longer
+    harness.Settings.is_complete = given.complete
     harness.Settings.seeds = [given.seed]
     if given.seed is None:
         harness.Settings.seeds = [FIXED_SEED, random.SystemRandom().randrange(2, 2**32)]

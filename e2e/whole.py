@@ -81,6 +81,7 @@ def missing_peers():
         "gcc": shutil.which("cc") is not None,
         "pyflakes3": shutil.which("pyflakes3") is not None,
         "shellcheck": shutil.which("shellcheck") is not None,
+        "strace": shutil.which("strace") is not None,
     }
     return [package for package, there in peers.items() if not there]
 
@@ -100,7 +101,7 @@ def install_peers():
 
 def main():
     """Runs all, also where the gate failed, and prints the sum."""
-    counts = [counts_of(gate()), (0, install_peers()), counts_of([sys.executable, "e2e/run.py"]),
+    counts = [counts_of(gate()), (0, install_peers()), counts_of([sys.executable, "e2e/run.py", "--complete"]),
               counts_of([sys.executable, "e2e/refusals.py"])]
     for what in ("ring", "routes", "values"):
         if has_carbon():

@@ -154,7 +154,7 @@ class UpToDate(harness.Suite):
 
     def test_the_logic_of_the_kit(self):
         if shutil.which("rt") is None:
-            self.skipTest("rt is not there")
+            self.skipTest("rt is missing")
         kit = subprocess.run(["rt", "version"], stdout=subprocess.PIPE, timeout=harness.LIMIT, check=True).stdout
         shown = [each for page in links.pages() for each in LOGIC.findall(text_of(page))]
         self.assertEqual(set(shown), set(LOGIC.findall(kit.decode())))

@@ -31,7 +31,7 @@ class QuickProgram(harness.Suite):
 
     def setUp(self):
         if shutil.which("rt") is None:
-            self.skipTest("rt is not there")
+            self.skipTest("rt is missing")
         folder = tempfile.TemporaryDirectory(prefix="relayd-quick-")
         self.addCleanup(folder.cleanup)
         self.folder = folder.name

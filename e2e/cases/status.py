@@ -332,7 +332,7 @@ class Status(Serving):
 
     def test_promtool_takes_the_metrics(self):
         if not shutil.which("promtool"):
-            raise unittest.SkipTest("there is no promtool here")
+            raise unittest.SkipTest("promtool is missing")
         store, = self.stores(1)
         with self.serving([f"127.0.0.1:{store.port}:a"]) as relay:
             done = subprocess.run(["promtool", "check", "metrics"], input=self.metrics(relay).encode(),
@@ -343,7 +343,7 @@ class Status(Serving):
     def test_in_a_browser(self):
         """Chromium shows the values, on a wide window and on that of a phone, and nothing is wider than it."""
         if not shutil.which("chromium"):
-            raise unittest.SkipTest("there is no chromium here")
+            raise unittest.SkipTest("chromium is missing")
         dest = f"127.0.0.1:{free_ports(1)[0]}"
         with self.serving([dest], MAX_QUEUE_SIZE="10") as relay, tempfile.TemporaryDirectory() as folder:
             relay.lines(b"a 1 1\n" * 25)
