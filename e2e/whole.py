@@ -75,6 +75,7 @@ def missing_peers():
         "chromium": shutil.which("chromium") is not None,
         "gnuplot-nox": shutil.which("gnuplot") is not None,
         "lintian": shutil.which("lintian") is not None,
+        "python3-yaml": has("yaml"),
         "podman": shutil.which("podman") is not None,
         "runc": shutil.which("runc") is not None,
         "busybox-static": os.path.exists("/bin/busybox"),

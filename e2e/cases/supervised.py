@@ -54,11 +54,15 @@ class Supervised(WithRelays):
 
     def never_ending(self):
         """The words that run a relay which answers, and never ends."""
+        self.replace_program(NEVER_ENDS)
+        return [SCRIPT, "--admin", str(self.admin)]
+
+    def replace_program(self, text):
+        """Puts a script in place of `relayd`."""
         program = self.folder / "bin" / "relayd"
         program.unlink()
-        program.write_text(NEVER_ENDS, encoding="ascii")
+        program.write_text(text, encoding="utf-8")
         program.chmod(0o755)
-        return [SCRIPT, "--admin", str(self.admin)]
 
     def words(self, **changed):
         """The words that run a relay whose destination is away."""
@@ -177,7 +181,8 @@ class Supervised(WithRelays):
 
     def test_a_hangup_before_it_is_ready(self):
         """The relay reads its files again once it is ready, since they may have changed after it read them."""
-        with self.started([*self.words(MAX_QUEUE_SIZE="1000000"), "--log"]) as child:
+        self.replace_program(f'#!/bin/sh\nif [ "$1" = run ]; then sleep 1; fi\nexec {os.path.abspath(Settings.relayd)} "$@"\n')
+        with self.started([*self.words(), "--log"]) as child:
             while not children(child.pid):
                 pass
             os.kill(child.pid, signal.SIGHUP)
