@@ -11,6 +11,8 @@ from fixtures import worked_rows
 ROOT = pathlib.Path(__file__).resolve().parents[2]
 CRATES = ROOT / "crates"
 PAGE = ROOT / "docs" / "DEFINITIONS.md"
+DECISIONS = ROOT / "docs" / "DECISIONS.md"
+FORMS = "## Forms that the kit decides\n"
 RULE = re.compile(r"\[.+\]\((?P<page>[A-Z]+\.md)(?:#[\w-]+)?\)")
 PLACE = re.compile(r"(?P<names>`[\w: ]+`(?:, `[\w: ]+`)*) in (?:`(?P<crate>\w+)`'s )?`(?P<file>[\w/]+\.\w+)`")
 FOLDER = re.compile(r"(?:`(?P<crate>\w+)`'s )?`(?P<path>proofs/[\w/]+)`")
@@ -135,6 +137,23 @@ def lacking_edits(row):
     return [] if any(file.is_file() for file in files) else [row.edit]
 
 
+def sources():
+    """The text of each source and each definition of the crates."""
+    return [file.read_text(encoding="utf-8") for folder in ("src", "specs") for file in sorted(CRATES.glob(f"*/{folder}/**/*.*t"))]
+
+
+def is_there(name, texts):
+    """Whether a name is a file, a crate, a text that the program writes, or something that a source declares: under its
+    last part, in a file with what its first one names."""
+    first, last = name.split("::")[0], name.split("::")[-1]
+    if (ROOT / name).exists() or (CRATES / name).is_dir():
+        return True
+    declared = re.compile(rf"\b(?:fn|struct|enum|trait|mod|record|data) {re.escape(last)}\b|^ +(?:pub(?:\(crate\))? )?{re.escape(last)}[:,]"
+                          rf"|codes \"{re.escape(last)}", re.M)
+    owner = re.compile(rf"\b(?:impl\b.* |struct |enum |trait ){re.escape(first)}\b" if first != last else "")
+    return any(owner.search(text) and declared.search(text) for text in texts)
+
+
 class Definitions(unittest.TestCase):
     """The columns of the page."""
 
@@ -169,6 +188,15 @@ class Definitions(unittest.TestCase):
         for row in only:
             self.assertRegex(row.rule, RULE)
             self.assertEqual(lacking_tests_of(row), [], row.rule)
+
+    def test_the_forms_that_the_kit_decides(self):
+        forms = DECISIONS.read_text(encoding="utf-8").split(FORMS)[1].split("\n## ")[0]
+        names = re.findall(r"`([^`]+)`", forms)
+        self.assertGreater(len(names), 10)
+        texts = sources()
+        for name in names:
+            self.assertTrue(is_there(name, texts), name)
+        self.assertFalse(is_there("Queues::with_totals", texts))
 
     def test_helpers_are_refused(self):
         """What only helps a test is none."""

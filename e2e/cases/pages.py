@@ -6,7 +6,7 @@ import re
 import shutil
 import subprocess
 
-from fixtures import harness, links
+from fixtures import harness, links, waits
 from fixtures.pages import PageSuite
 from fixtures.program import TOP
 
@@ -142,6 +142,12 @@ class UpToDate(harness.Suite):
             for file in FILE.findall(text_of(page)):
                 there = [os.path.exists(os.path.join(TOP, below, file)) for below in ("", "crates")]
                 self.assertTrue(any(there), f"{page}: {file}")
+
+    def test_what_may_not_return(self):
+        """PROVED lists each function that calls what may wait, and no other."""
+        rows = re.findall(r"^\| `(\w+)` \| ((?:`[\w:]+`(?:, )?)+) \|$", text_of("docs/PROVED.md"), re.MULTILINE)
+        shown = {crate: re.findall(r"`([\w:]+)`", names) for crate, names in rows}
+        self.assertEqual(shown, waits.waiting())
 
     def test_the_cases_of_attacks(self):
         """Each case that the page names is there, and each attack has a row."""
