@@ -22,6 +22,7 @@ sys.path[:0] = [HERE, os.path.dirname(HERE)]  # the cases here, and the fixtures
 
 import alerted  # noqa: E402
 import cases  # noqa: E402
+import dashboards  # noqa: E402
 import encrypted  # noqa: E402
 import long_lines  # noqa: E402
 import pictured  # noqa: E402
@@ -30,7 +31,7 @@ import restarted  # noqa: E402
 import scraped  # noqa: E402
 from fixtures.harness import Settings  # noqa: E402
 
-MODULES = (alerted, cases, encrypted, long_lines, pictured, restarted, scraped)
+MODULES = (alerted, cases, dashboards, encrypted, long_lines, pictured, restarted, scraped)
 
 
 def main():
