@@ -18,6 +18,7 @@ PLACE = re.compile(r"(?P<names>`[\w: ]+`(?:, `[\w: ]+`)*) in (?:`(?P<crate>\w+)`
 FOLDER = re.compile(r"(?:`(?P<crate>\w+)`'s )?`(?P<path>proofs/[\w/]+)`")
 EDIT = re.compile(r"`(?P<name>\w+)`(?: of `(?P<crate>\w+)`)?")
 NO_PROOF, NO_TEST, NO_EDIT = "automatic", "none: a law", "none"
+EDIT_FOLDERS = ("must-fail", "more-edits")
 WORKED = "e2e/fixtures/worked_rows.py"
 
 
@@ -125,15 +126,24 @@ def lacking_tests_of(row):
     return [f"{name} in {file}" for _, file, names in places(row, row.test) for name in names if not is_test(file, name)]
 
 
+def edits_of(row):
+    """The wrong edits of the files of a row's contracts."""
+    for crate, file, _ in places(row, row.contract):
+        for kind in EDIT_FOLDERS:
+            for edit in sorted((CRATES / crate / kind).glob("*.edit")):
+                if f"file: {file}" in edit.read_text(encoding="utf-8").splitlines():
+                    yield edit.stem
+
+
 def lacking_edits(row):
-    """The wrong edit of a row that is not there."""
+    """The wrong edit of a row that is not there, or those that a row without one leaves out."""
     if row.edit == NO_EDIT:
-        return []
+        return list(edits_of(row))
     found = EDIT.fullmatch(row.edit)
     if found is None:
         return [row.edit]
     folder = CRATES / (found["crate"] or crate_of(row))
-    files = [folder / kind / f"{found['name']}.edit" for kind in ("must-fail", "more-edits")]
+    files = [folder / kind / f"{found['name']}.edit" for kind in EDIT_FOLDERS]
     return [] if any(file.is_file() for file in files) else [row.edit]
 
 

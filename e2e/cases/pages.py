@@ -16,8 +16,14 @@ COMMAND = re.compile(r"`(?:relayd )?(\w+)(?: [^`]*)?`")
 OPTION = re.compile(r"--[a-z]+(?:-[a-z]+)*")
 SYNOPSIS = re.compile(r"`relayd (\w+) ([^`]*\[--[^`]*)`")
 FILE = re.compile(r"`((?:\w+/(?:src|specs)|e2e|examples|tools|packaging|docs)/[\w./-]+\.\w+)`")
+NAMED = r"`(?:relayd )?[a-z]+`"
+LISTED = re.compile(rf"{NAMED}(?:(?:, | and | or |, and |, or ){NAMED})+")
+OPTION_OF = re.compile(rf"`(--[a-z]+(?:-[a-z]+)*)[^`]*` of ({NAMED}(?:(?:, | and | or ){NAMED})*)")
+CODE_NAME = re.compile(r"`((?:[A-Z]\w+|[a-z]+_\w+)(?:::\w+)*)`")
+DEFINED = re.compile(r"\b(?:fn|struct|enum|trait|type) (\w+)")
 LOGIC = re.compile(r"rattle-kit-\w+ logic (\w+)")
 MANUAL = os.path.join("packaging", "relayd.1")
+HISTORY = "CHANGELOG.md"
 CASE = re.compile(r"`(\w+)\.(\w+)\.(test_\w+)`")
 ATTACKED = "e2e/cases/hostile.py"
 WORD = re.compile(r"\S*\w\S*")  # the bars of a table are none
@@ -28,6 +34,12 @@ def text_of(page):
     """The text of a file of the repository."""
     with open(os.path.join(TOP, page), encoding="utf-8") as file:
         return file.read()
+
+
+def crate_sources():
+    """The sources of all crates, from the top of the repository."""
+    return [os.path.join(at, file)[len(TOP) + 1:] for at, _, files in os.walk(os.path.join(TOP, "crates"))
+            if f"{os.sep}src" in at for file in files if file.endswith(".rt")]
 
 
 def layers():
@@ -116,6 +128,35 @@ class UpToDate(harness.Suite):
                         seen += 1
                         self.assertEqual(named, {it for it in known if option in known[it]}, f"{page}: {text}")
         self.assertGreater(seen, 2)
+
+    def test_whoever_has_an_option_is_named(self):
+        known, seen = options(), 0
+        for page in (it for it in user_pages() if it != HISTORY):
+            for option, listed in OPTION_OF.findall(text_of(page)):
+                named = set(COMMAND.findall(listed))
+                seen += 1
+                self.assertEqual(named, {it for it in known if option in known[it]}, f"{page}: {option} of {listed}")
+        self.assertGreater(seen, 0)
+
+    def test_long_lists_of_commands_have_all(self):
+        known, seen = set(options()), 0
+        for page in user_pages():
+            for listed in LISTED.findall(text_of(page)):
+                named = set(COMMAND.findall(listed))
+                if named <= known and len(named) > len(known) - 2:
+                    seen += 1
+                    self.assertEqual(named, known, f"{page}: {listed}")
+        self.assertGreater(seen, 0)
+
+    def test_functions_of_walks(self):
+        """Each function and type that ARCHITECTURE names on a way through the code is there."""
+        page = text_of(os.path.join("docs", "ARCHITECTURE.md"))
+        ways = page[page.index("## The life of a datapoint"):page.index("## Where to begin a change")]
+        named = {name for parts in CODE_NAME.findall(ways) for name in parts.split("::")}
+        defined = {name for path in crate_sources() for name in DEFINED.findall(text_of(path))}
+        self.assertGreater(len(named), 40)
+        named -= {crate for row in text_of("crates.txt").splitlines() for crate in re.findall(r"\w+", row)}
+        self.assertEqual(sorted(named - defined), [])
 
     def test_synopses_of_pages(self):
         known, seen = options(), 0
