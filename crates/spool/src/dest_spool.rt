@@ -157,21 +157,39 @@ impl DestSpool {
         Ok(new)
     }
 
-    /// Ends a new file: it is on the disk whole, and takes the place of the earlier one.
+    /// Ends a new file: it is on the disk whole, and is the earlier one from now on.
     pub(crate) fn end_new<D: SpoolDisk>(
-        &self,
+        &mut self,
         disk: &D,
-        new: &LimitedFile<File>,
+        new: LimitedFile<File>,
     ) -> io::Result<()> {
-        if !new.is_whole() {
-            new.file().set_len(new.whole())?;
+        let (end, is_whole) = (new.whole(), new.is_whole());
+        let file = new.into_file();
+        if !is_whole {
+            file.set_len(end)?;
         }
-        new.file().sync_all()?;
+        file.sync_all()?;
         if self.has_begun_line {
             let _ = disk.give_name(self.names.held(), self.names.aside());
         }
         disk.give_name(self.names.new_file(), self.names.held())?;
-        disk.sync_folder(self.names.folder())
+        disk.sync_folder(self.names.folder())?;
+        self.hold(file, end);
+        Ok(())
+    }
+
+    /// From now on this file, whose whole lines end there and at its own end, is the one that holds lines, if it has some.
+    fn hold(&mut self, file: File, end: u64) {
+        self.has_begun_line = false;
+        self.held = if end == 0 {
+            None
+        } else {
+            Some(HeldFile {
+                file,
+                end,
+                cursor: Cursor::new(),
+            })
+        };
     }
 
     /// The new file goes.

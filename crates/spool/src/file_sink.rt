@@ -102,6 +102,20 @@ impl<D: SpoolDisk + Drop> Write for FileSink<'_, D> {
     }
 }
 
+impl<D: SpoolDisk + Drop> FileSink<'_, D> {
+    /// Ends the connection, as its drop does, and gives the files back: the new one, if there is one, is the earlier one now.
+    pub fn end(self) -> DestSpool {
+        let FileSink {
+            disk,
+            spool,
+            limit,
+            notes,
+            stage,
+        } = self;
+        ended(disk, spool, limit, notes, stage)
+    }
+}
+
 impl<D: SpoolDisk + Drop> Drop for FileSink<'_, D> {
     fn drop(self) {
         let FileSink {
@@ -111,17 +125,27 @@ impl<D: SpoolDisk + Drop> Drop for FileSink<'_, D> {
             notes,
             stage,
         } = self;
-        let mut stage = stage;
-        if spool.is_partly_sent() {
-            begin(&mut stage, &disk, &spool, limit, notes);
-        }
-        if let Stage::Open(new) = &stage {
-            end_file(&disk, &spool, notes, new);
-        }
-        drop(stage);
-        drop(spool);
-        drop(disk);
+        drop(ended(disk, spool, limit, notes, stage));
     }
+}
+
+/// Ends the new file, which is begun before if the earlier one was partly sent, and gives the files back.
+fn ended<D: SpoolDisk + Drop>(
+    disk: D,
+    spool: DestSpool,
+    limit: Option<u64>,
+    notes: Option<&SpoolNotes>,
+    stage: Stage,
+) -> DestSpool {
+    let (mut spool, mut stage) = (spool, stage);
+    if spool.is_partly_sent() {
+        begin(&mut stage, &disk, &spool, limit, notes);
+    }
+    if let Stage::Open(new) = stage {
+        end_file(&disk, &mut spool, notes, new);
+    }
+    drop(disk);
+    spool
 }
 
 /// Writes to a new file, and notes what it took.
@@ -161,9 +185,9 @@ fn note_write(notes: &SpoolNotes, answer: &io::Result<usize>, bytes: &[u8]) {
 /// Ends a new file, which goes if it cannot be on the disk whole.
 fn end_file<D: SpoolDisk>(
     disk: &D,
-    spool: &DestSpool,
+    spool: &mut DestSpool,
     notes: Option<&SpoolNotes>,
-    new: &LimitedFile<File>,
+    new: LimitedFile<File>,
 ) {
     let ended = spool.end_new(disk, new);
     if let Err(error) = ended {

@@ -48,11 +48,16 @@ impl<W: Write> LimitedFile<W> {
         self.written.start() == self.written.next()
     }
 
-    /// The file.
-    pub fn file(&self) -> &W
-        ensures { result.now ≡ self.now.file }
+    /// The file alone.
+    pub fn into_file(self) -> W
+        ensures { result ≡ self.file }
     {
-        &self.file
+        let LimitedFile {
+            file,
+            limit: _,
+            written: _,
+        } = self;
+        file
     }
 }
 

@@ -16,7 +16,7 @@ pub trait SpoolDisk {
     /// Opens a file to read it.
     fn open_held(&self, path: &str) -> io::Result<File>;
 
-    /// Makes a file anew, which only its owner may read. One that is there goes.
+    /// Makes a file anew, which is written and then read, and only its owner may read. One that is there goes.
     fn make_new(&self, path: &str) -> io::Result<File>;
 
     /// Gives a file another name, in place of what has that.
@@ -40,6 +40,7 @@ impl SpoolDisk for HostRuntime {
     fn make_new(&self, path: &str) -> io::Result<File> {
         let _ = fs::remove_file(self, path);
         OpenOptions::new()
+            .read(true)
             .write(true)
             .create_new(true)
             .mode(OWNER_ALONE)
