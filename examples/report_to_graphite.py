@@ -4,25 +4,30 @@
     report_to_graphite.py --admin PORT --to HOST:PORT [--status PORT] [--prefix NAME] [--instance NAME]
                           [--state FILE | --every SECONDS]
 
-Asks the admin port of a relay on this machine for its report, and writes four lines for each destination to the line
+Asks the admin port of a relay on this machine for its report, and writes five lines for each destination to the line
 port of --to, which may be the relay's own:
 
     carbon.relays.web1.destinations.127_0_0_1:2103:a.attemptedRelays 60210 1700000000
     carbon.relays.web1.destinations.127_0_0_1:2103:a.sent 60000 1700000000
     carbon.relays.web1.destinations.127_0_0_1:2103:a.fullQueueDrops 210 1700000000
     carbon.relays.web1.destinations.127_0_0_1:2103:a.queued 0 1700000000
-
-With --status it also asks the relay's status server, on this machine, and writes what the report does not have, as it is
-now: for a destination `connected` (0 or 1), `connectionLosses` and `failedTries` since the start, `stalledSeconds` and
-`oldestQueuedMilliseconds`; for a receiver, under `receivers.line`, `receivers.line_1` or the like, `open` (0 or 1),
-`connections`, and since the start `datapoints`, `rejected`, `refused` and `lost`.
+    carbon.relays.web1.destinations.127_0_0_1:2103:a.relayMaxQueueLength 0 1700000000
 
 The first three count what was offered, taken and dropped since the last turn, or since the relay's start if that was
-later. `queued`, which carbon does not have, is what waits now. --prefix is carbon's CARBON_METRIC_PREFIX, and with
---instance the machine's name is followed by `-` and that, as for an instance of carbon.
+later. `queued`, which carbon does not have, is what waits now, and so is `relayMaxQueueLength`.
+
+With --status it also asks the relay's status server, on this machine, and writes what the report does not have. Of the
+relay, as carbon does: `metricsReceived` since the last turn, `activeConnections` now, `cpuUsage`, in percent of one
+processor since the last turn, and `memUsage`, in bytes. And as it is now: for a destination `connected` (0 or 1),
+`connectionLosses` and `failedTries` since the start, `stalledSeconds` and `oldestQueuedMilliseconds`; for a receiver,
+under `receivers.line`, `receivers.line_1` or the like, `open` (0 or 1), `connections`, and since the start `datapoints`,
+`rejected`, `refused` and `lost`.
+
+--prefix is carbon's CARBON_METRIC_PREFIX, and with --instance the machine's name is followed by `-` and that, as for an
+instance of carbon.
 
 It does so once, or every SECONDS seconds until it is stopped. --state names a file that keeps the counts from one call to
-the next; a first turn has only `queued`. A failure is reported on standard error, and the next turn includes
+the next; a first turn has no count since the last one. A failure is reported on standard error, and the next turn includes
 what was not sent. An answer may take 5 seconds, and sending another 5. The status is 0, or 1 after a failure.
 """
 
@@ -41,6 +46,8 @@ DEST_STATUS = {"connected": "connected", "connection_losses": "connectionLosses"
                "stalled_seconds": "stalledSeconds", "oldest_queued_milliseconds": "oldestQueuedMilliseconds"}
 REJECTED = ("bad_lines", "bad_pickles", "bad_rows", "bad_names")
 LOST = ("overlong", "unfinished", "idle", "memory_short", "broken", "system_drop")
+PROCESS = re.compile(r"^process_(cpu_seconds_total|resident_memory_bytes|start_time_seconds) (\S+)$", re.MULTILINE)
+RELAY = "relay"  # the row of a relay beside those of its destinations, which have a colon
 LIMIT = 5  # seconds that an answer may take, and sending
 LONGEST = 1 << 20  # bytes of an answer
 
@@ -113,15 +120,37 @@ def started_anew(counts, before):
 
 
 def lines_of(counts, before, prefix, moment):
-    """The lines of a turn; there is nothing before a first one."""
+    """The lines of destinations; there is nothing before a first turn."""
     lines = []
     for name, row in counts.items():
         if before is not None:
             last = {} if started_anew(counts, before) else before.get(name, {})
             lines += [f"{prefix}.destinations.{carbon_name(name)}.{key} {row[count] - last.get(count, 0)} {moment}\n"
                       for count, key in COUNTED.items()]
-        lines.append(f"{prefix}.destinations.{carbon_name(name)}.queued {row['queued']} {moment}\n")
+        lines += [f"{prefix}.destinations.{carbon_name(name)}.{key} {row['queued']} {moment}\n"
+                  for key in ("queued", "relayMaxQueueLength")]
     return lines
+
+
+def relay_of(status, metrics, moment):
+    """What the status server says of the relay itself."""
+    process = {name: float(value) for name, value in PROCESS.findall(metrics)}
+    total = {name: sum(it[name] for it in status["receivers"]) for name in ("datapoints", "connections")}
+    return {"moment": moment, "started": process["start_time_seconds"], "processor": process["cpu_seconds_total"],
+            "memory": process["resident_memory_bytes"], **total}
+
+
+def relay_lines_of(relay, before, prefix, moment):
+    """The lines of the relay itself; there is nothing before a first turn."""
+    values = {"activeConnections": relay["connections"], "memUsage": int(relay["memory"])}
+    if before is not None:
+        if before["started"] != relay["started"]:
+            before = {"moment": relay["started"], "processor": 0, "datapoints": 0}
+        values["metricsReceived"] = relay["datapoints"] - before["datapoints"]
+        if relay["moment"] > before["moment"]:
+            share = (relay["processor"] - before["processor"]) / (relay["moment"] - before["moment"])
+            values["cpuUsage"] = round(100 * share, 2)
+    return [f"{prefix}.{name} {value} {moment}\n" for name, value in values.items()]
 
 
 def status_lines_of(status, prefix, moment):
@@ -137,12 +166,18 @@ def status_lines_of(status, prefix, moment):
     return [f"{prefix}.{name} {value} {moment}\n" for name, value in values]
 
 
-def status_of(port):
-    """What the status server at this port says, within the limit."""
+def served(port, path):
+    """What the status server at this port has at a path, within the limit."""
+    with urllib.request.urlopen(f"http://127.0.0.1:{port}/{path}", timeout=LIMIT) as answer:
+        return answer.read(LONGEST).decode()
+
+
+def statuses_of(port, moment):
+    """The status that this port serves, and what it says of the relay itself."""
     try:
-        with urllib.request.urlopen(f"http://127.0.0.1:{port}/status.json", timeout=LIMIT) as answer:
-            return json.loads(answer.read(LONGEST))
-    except (OSError, ValueError) as error:
+        status = json.loads(served(port, "status.json"))
+        return status, relay_of(status, served(port, "metrics"), moment)
+    except (OSError, ValueError, KeyError) as error:
         raise Failed(f"port {port}: {error}") from error
 
 
@@ -177,13 +212,16 @@ def keep(path, counts):
 def turn(words, before):
     """Asks, and sends what is answered. Gives the counts, with which the next turn begins."""
     machine = socket.gethostname().replace(".", "_") + (f"-{words.instance}" if words.instance else "")
-    prefix, moment = f"{words.prefix}.relays.{machine}", int(time.time())
-    counts = counts_of(report(words.admin))
-    lines = lines_of(counts, before, prefix, moment)
+    prefix, now = f"{words.prefix}.relays.{machine}", time.time()
+    counts, relay = counts_of(report(words.admin)), {}
+    rows = before and {name: row for name, row in before.items() if name != RELAY}
+    lines = lines_of(counts, rows, prefix, int(now))
     if words.status is not None:
-        lines += status_lines_of(status_of(words.status), prefix, moment)
+        status, relay[RELAY] = statuses_of(words.status, now)
+        lines += relay_lines_of(relay[RELAY], before and before.get(RELAY), prefix, int(now))
+        lines += status_lines_of(status, prefix, int(now))
     send(lines, words.to)
-    return counts
+    return counts | relay
 
 
 def main():

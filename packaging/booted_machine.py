@@ -195,7 +195,7 @@ def reports_its_metrics(service, checks):
                 service.shell("journalctl -q -o cat -u relayd-metrics"))
     name = re.escape("127_0_0_1:2103:a")
     line = re.compile(rf"^carbon\.relays\.[^. ]+\.destinations\.{name}\.(\w+) \d+ \d+$", re.MULTILINE)
-    wanted = {"attemptedRelays", "sent", "fullQueueDrops", "queued"}
+    wanted = {"attemptedRelays", "sent", "fullQueueDrops", "queued", "relayMaxQueueLength"}
     came = service.until(lambda: wanted <= set(line.findall(service.shell("cat /root/a /root/b"))))
     checks.that("they have carbon's names, and reach a store", came, service.shell("cat /root/a /root/b"))
     checks.that("the timer is enabled", service.systemctl("enable", "--now", "relayd-metrics.timer") == 0 and

@@ -113,6 +113,14 @@ class ManPage(harness.Suite):
             with self.subTest():
                 self.assertRegex(self.text, rf"(?m)^\.B {command}$")
 
+    def test_each_command_has_its_statuses(self):
+        """In the table, as in that of docs/FAULTS.md."""
+        found = re.findall(r"(?m)^(\w+)\tT\{$", section(self.text, "EXIT STATUS"))
+        self.assertEqual(sorted(found), sorted(commands()))
+        with open(os.path.join(TOP, "docs", "FAULTS.md"), encoding="utf-8") as file:
+            table = re.search(r"(?ms)^\| Command \| 0 .*?\n\n", file.read())[0]
+        self.assertEqual(re.findall(r"(?m)^\| `([\w-]+)`", table), [*found, "relayd-supervised"])
+
     def test_each_option_has_its_commands(self):
         found = re.findall(r"(?m)^\.TP\n\.BI? (--[a-z]+(?:-[a-z]+)*).*\n\(([a-z, ]+)\)$", section(self.text, "OPTIONS"))
         told = {option: sorted(names.split(", ")) for option, names in found}

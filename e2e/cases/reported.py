@@ -11,6 +11,7 @@ import sys
 import tempfile
 import threading
 import time
+import urllib.request
 
 from cases.receiving import shown
 from fixtures.harness import LIMIT
@@ -19,7 +20,7 @@ from fixtures.running import WithRelays
 from fixtures.stores import free_ports
 
 SCRIPT = os.path.join(TOP, "examples", "report_to_graphite.py")
-LINE = re.compile(rb"(\S+) (\d+) (\d{10})")
+LINE = re.compile(rb"(\S+) (\d+(?:\.\d+)?) (\d{10})")
 COUNTED = {"attemptedRelays": "offered", "sent": "taken", "fullQueueDrops": "dropped"}
 MACHINE = socket.gethostname().replace(".", "_")
 BOUND = 60  # seconds in which the script gives up, with an answer that hangs and a store that hangs: ten, on a fast machine
@@ -74,7 +75,50 @@ class Reported(WithRelays):
         self.wait_for(lambda: len(store.lines()) >= seen + count, "all counts have come")
         found = [LINE.fullmatch(line) for line in store.lines()[seen:]]
         self.assertEqual(len(found), count)
-        return {it[1].decode(): int(it[2]) for it in found}
+        return {it[1].decode(): float(it[2]) for it in found}
+
+    def test_the_names_of_carbon(self):
+        """With --status a dashboard for carbon-relay has what it asks for first."""
+        store, own = self.stores(2)
+        status, = free_ports(1)
+        dests = [f"127.0.0.1:{store.port}:a"]
+        words = ("--status", str(status), "--state", self.state)
+        rules = f"[all]\ndefault = true\ndestinations = {dests[0]}\n"
+        name = f"carbon.relays.{MACHINE}."
+        for turn, count in enumerate((3, 5)):  # the second relay has started anew
+            with self.relay(dests, rules, options=("--status", str(status))) as relay:
+                if turn == 0:
+                    self.assertEqual(script(relay.admin, own.port, *words), (0, b""))
+                with socket.create_connection(("127.0.0.1", relay.line), LIMIT) as stream:
+                    stream.sendall(b"a 1 1\n" * count)
+                    self.wait_for(lambda: shown(status)["receivers"][0]["datapoints"] == count, "they have come")
+                    seen = len(own.lines())
+                    self.assertEqual(script(relay.admin, own.port, *words), (0, b""))
+                    values = self.values(own, seen, 5 + 4 + 5 + 3 * 6)
+                self.assertEqual((values[name + "metricsReceived"], values[name + "activeConnections"]), (count, 1))
+                self.assertGreater(values[name + "memUsage"], 1_000_000)
+                self.assertTrue(0 <= values[name + "cpuUsage"] <= 800, values)
+                self.assertEqual(values[f"{name}destinations.127_0_0_1:{store.port}:a.relayMaxQueueLength"], 0)
+                self.settles(relay)
+
+    def test_the_table_of_names(self):
+        """docs/OPERATING.md has each name that comes, and those of Prometheus are served."""
+        with open(os.path.join(TOP, "docs", "OPERATING.md"), encoding="utf-8") as file:
+            rows = re.findall(r"(?m)^\| `([\w.]+)`[^|]*\|.*\| `([^|`]+)` \|$", file.read())
+        store, own = self.stores(2)
+        status, = free_ports(1)
+        dests = [f"127.0.0.1:{store.port}:a"]
+        with self.relay(dests, f"[all]\ndefault = true\ndestinations = {dests[0]}\n", options=("--status", str(status))) as relay:
+            for count in (2 + 2 + 5 + 3 * 6, 5 + 4 + 5 + 3 * 6):
+                self.assertEqual(script(relay.admin, own.port, "--status", str(status), "--state", self.state), (0, b""))
+                values = self.values(own, len(own.lines()) - count if own.lines() else 0, count)
+            short = [name.removeprefix(f"carbon.relays.{MACHINE}.") for name in values]
+            names = {re.sub(r"^(d|r)(\w+)\.[^.]+", lambda it: f"{it[0].split('.')[0]}.{it[1].upper()}", name) for name in short}
+            self.assertEqual(names, {name for name, _ in rows})
+            with urllib.request.urlopen(f"http://127.0.0.1:{status}/metrics", timeout=LIMIT) as answer:
+                served = set(re.findall(r"(?m)^# TYPE (\w+)", answer.read().decode()))
+            self.assertLessEqual({re.search(r"(relayd|process)_\w+", query)[0] for _, query in rows}, served)
+            self.settles(relay)
 
     def test_the_status_comes_too(self):
         """With --status each destination and each receiver has what the report does not say."""
@@ -87,7 +131,7 @@ class Reported(WithRelays):
             relay.lines(b"a 1 1\nbad\n")
             self.wait_for(lambda: is_shown(shown(status)), "the status has it")
             self.assertEqual(script(relay.admin, own.port, "--status", str(status)), (0, b""))
-            values = self.values(own, 0, 2 + 2 * 5 + 4 * 6)
+            values = self.values(own, 0, 2 * 2 + 2 + 2 * 5 + 4 * 6)
             names = f"carbon.relays.{MACHINE}"
             self.assertEqual(values[f"{names}.destinations.127_0_0_1:{store.port}:a.connected"], 1)
             self.assertEqual(values[f"{names}.destinations.127_0_0_1:{other}:None.connected"], 0)
@@ -99,7 +143,7 @@ class Reported(WithRelays):
             self.settles(relay)
 
     def test_counts_come_as_datapoints(self):
-        """`queued` at once, and from the second turn on what was counted since the last one, by carbon's names."""
+        """The queue at once, and from the second turn on what was counted since the last one, by carbon's names."""
         store, own = self.stores(2)
         other, = free_ports(1)
         dests = [f"127.0.0.1:{store.port}:a", f"127.0.0.1:{other}"]
@@ -116,26 +160,28 @@ class Reported(WithRelays):
                      f"stats.carbon.relays.{MACHINE}-b.destinations.127_0_0_1:{other}:None."]
             send(range(2))
             self.assertEqual(script(relay.admin, own.port, *words), (0, b""))
-            self.assertEqual(self.values(own, 0, 2), {names[0] + "queued": 0, names[1] + "queued": 2})
+            self.assertEqual(self.values(own, 0, 4), {name + key: queued for name, queued in zip(names, (0, 2))
+                                                      for key in ("queued", "relayMaxQueueLength")})
             send(range(2, 7))
             self.assertEqual(script(relay.admin, own.port, *words), (0, b""))
-            self.assertEqual(self.values(own, 2, 8), {
+            self.assertEqual(self.values(own, 4, 10), {
                 names[0] + "attemptedRelays": 5, names[0] + "sent": 5, names[0] + "fullQueueDrops": 0,
-                names[0] + "queued": 0, names[1] + "attemptedRelays": 5, names[1] + "sent": 0,
-                names[1] + "fullQueueDrops": 4, names[1] + "queued": 3})
+                names[0] + "queued": 0, names[0] + "relayMaxQueueLength": 0, names[1] + "attemptedRelays": 5,
+                names[1] + "sent": 0, names[1] + "fullQueueDrops": 4, names[1] + "queued": 3,
+                names[1] + "relayMaxQueueLength": 3})
             # A turn that fails is in the next one.
             send(range(7, 9))
             self.assertEqual(script(relay.admin, other, *words)[0], 1)
             send(range(9, 10))
             self.assertEqual(script(relay.admin, own.port, *words), (0, b""))
-            self.assertEqual(self.values(own, 10, 8)[names[0] + "sent"], 3)
+            self.assertEqual(self.values(own, 14, 10)[names[0] + "sent"], 3)
             self.settles(relay)
         # A relay that has started anew counts from 0.
         with self.relay(dests, rules, MAX_QUEUE_SIZE="3") as relay:
             relay.lines(b"a 1 1\n")
             self.wait_for(lambda: len(store.lines()) == 11, "the line has come")
             self.assertEqual(script(relay.admin, own.port, *words), (0, b""))
-            self.assertEqual(self.values(own, 18, 8)[names[0] + "attemptedRelays"], 1)
+            self.assertEqual(self.values(own, 24, 10)[names[0] + "attemptedRelays"], 1)
             self.settles(relay)
 
     def test_the_relay_itself_takes_them(self):
@@ -146,20 +192,21 @@ class Reported(WithRelays):
             with open(self.state, "w", encoding="ascii") as file:
                 json.dump({dests[0]: {"queued": 0, "offered": 0, "dropped": 0, "taken": 0}}, file)
             self.assertEqual(script(relay.admin, relay.line, "--state", self.state), (0, b""))
-            self.wait_for(lambda: len(store.lines()) == 4, "all counts have come")
+            self.wait_for(lambda: len(store.lines()) == 5, "all counts have come")
             self.settles(relay)
 
     def test_again_and_again(self):
-        """With --every the second turn has the counts, and the first has `queued` alone."""
+        """With --every the second turn has the counts, and the first has the queue alone."""
         store, own = self.stores(2)
         dests = [f"127.0.0.1:{store.port}"]
         with self.relay(dests, f"[all]\ndefault = true\ndestinations = {dests[0]}\n") as relay:
             words = [sys.executable, SCRIPT, "--admin", str(relay.admin), "--to", f"127.0.0.1:{own.port}", "--every", "1"]
             with subprocess.Popen(words) as child:
-                self.wait_for(lambda: len(own.lines()) >= 5, "two turns have come")
+                self.wait_for(lambda: len(own.lines()) >= 7, "two turns have come")
                 child.kill()
-            self.assertEqual([line.split()[0].split(b".")[-1] for line in own.lines()[:5]],
-                             [b"queued", b"attemptedRelays", b"sent", b"fullQueueDrops", b"queued"])
+            self.assertEqual([line.split()[0].split(b".")[-1] for line in own.lines()[:7]],
+                             [b"queued", b"relayMaxQueueLength", b"attemptedRelays", b"sent", b"fullQueueDrops", b"queued",
+                              b"relayMaxQueueLength"])
             self.settles(relay)
 
     def fails_in_time(self, admin, port):
