@@ -5,7 +5,7 @@
 # make test       the gate `rt ci`, then the end-to-end tests
 # make quick-test what to run before a commit: the quick program, the layout of all sources, and its end-to-end tests
 # make e2e        the end-to-end tests alone; CASES='NAME ..': some of them
-# make hostile    the cases of hostile use in their longer form
+# make hostile    the cases of hostile use in their longer form, and 200 random histories
 # make edits      tries the wrong bodies that the gate does not; CRATE=NAME: of one crate
 # make bench      relayd beside other programs, and what its commands cost, in one run; draws docs/bench.svg
 # make install    installs the program, its man pages and its completions below DESTDIR and PREFIX
@@ -86,7 +86,7 @@ e2e: $(of_program)
 
 hostile: $(of_program)
 	@python3 e2e/run.py $(driven) --longer hostile last_lines long_names memory.OfARelay memory.OfTheService \
-		admin_port receiving.Losses limits starved_start
+		admin_port receiving.Losses limits starved_start histories
 
 edits:
 	@$(needs_rt)
