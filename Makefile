@@ -13,7 +13,8 @@
 # make image      builds the image of a container, by podman or buildah, with nothing fetched
 # make notices    writes the notices of what the program links: THIRD_PARTY.md and packaging/copyright
 # make deb-test   installs that package on a clean Debian in a folder, looks at it and purges it, and does so where systemd
-#                 has booted there; as root, with debootstrap and systemd-container
+#                 has booted there; as root, with debootstrap and systemd-container; SUITE=trixie: on another Debian
+# make tarball    builds an archive that runs from any folder, in bin/
 # make clean      removes what was built
 #
 # PROGRAM=bin/relayd-quick has e2e, hostile and bench take the quick program, which is built first; PROGRAM=PATH another.
@@ -34,7 +35,7 @@ PROGRAM ?= bin/relayd
 of_program := $(if $(filter bin/relayd-quick,$(PROGRAM)),quick,$(filter bin/relayd,$(PROGRAM)))
 driven := $(if $(filter-out bin/relayd,$(PROGRAM)),--relayd $(PROGRAM))
 
-.PHONY: build quick demo check test quick-test e2e hostile edits bench install deb deb-test image notices clean
+.PHONY: build quick demo check test quick-test e2e hostile edits bench install deb deb-test tarball image notices clean
 
 build: bin/relayd
 
@@ -124,9 +125,14 @@ deb: bin/relayd
 	@$(call needs,strip,the Debian package binutils has it)
 	@packaging/deb.sh bin/relayd bin
 
+SUITE ?= bookworm
 deb-test: deb
 	@$(needs_python)
-	@python3 packaging/clean_machine.py "bin/relayd_$$(bin/relayd --version | cut -d' ' -f2 | tr - '~')_amd64.deb"
+	@python3 packaging/clean_machine.py --suite $(SUITE) "bin/relayd_$$(bin/relayd --version | cut -d' ' -f2 | tr - '~')_amd64.deb"
+
+tarball: bin/relayd
+	@$(call needs,strip,the Debian package binutils has it)
+	@packaging/tarball.sh bin/relayd bin
 
 image: bin/relayd
 	@$(call needs,strip,the Debian package binutils has it)

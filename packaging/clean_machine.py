@@ -2,15 +2,17 @@
 """Installs the Debian package of relayd on a clean Debian, looks at what it brought, and purges it again; and does so
 with systemd booted there, to try its service.
 
-    python3 packaging/clean_machine.py PACKAGE [MACHINE]
+    python3 packaging/clean_machine.py PACKAGE [--suite SUITE] [--machine FOLDER]
 
-MACHINE is a folder with a Debian that `debootstrap` has made; without it one is made below the folder for temporary
-files, and removed at the end. It has to be run as root, with Debian's debootstrap, and takes two or three
+SUITE is a Debian such as bookworm, bullseye or trixie. FOLDER has such a Debian that `debootstrap` has made; without it
+one is made below the folder for temporary files, and removed at the end. On a Debian whose C library is too old, the
+package must be refused. It has to be run as root, with Debian's debootstrap, and takes two or three
 minutes; the ports 2013, 2014 and 2015 have to be free. Where systemd cannot be booted, as without Debian's
 systemd-container, a line says so, and the other checks count. A line is printed for each check; the last one is
 `N passed, M failed`.
 """
 
+import argparse
 import contextlib
 import os
 import re
@@ -26,7 +28,7 @@ sys.dont_write_bytecode = True  # the folder stays as it was checked out
 
 import booted_machine
 
-SUITE = "bookworm"
+OLDEST_LIBRARY = (2, 34)  # of glibc, as the package says
 OTHERS = "systemd,man-db,bash-completion,netcat-openbsd,python3"  # what is asked here, beside the smallest Debian
 LIMIT = 60
 CONFIGURATION = ["/etc/relayd/relay.conf", "/etc/relayd/relay-rules.conf", "/etc/relayd/rewrite-rules.conf"]
@@ -124,7 +126,7 @@ class Checks:
 
 
 @contextlib.contextmanager
-def machine(folder):
+def machine(folder, suite):
     """The machine of a folder, or a new one."""
     if os.geteuid() != 0:
         sys.exit("clean_machine: only root can make a machine in a folder")
@@ -135,7 +137,7 @@ def machine(folder):
         sys.exit("clean_machine: debootstrap is missing: the Debian package debootstrap has it")
     with tempfile.TemporaryDirectory(prefix="relayd-machine-") as folder:
         os.chmod(folder, 0o755)  # for users without rights
-        words = ["debootstrap", "--variant=minbase", f"--include={OTHERS}", SUITE, folder]
+        words = ["debootstrap", "--variant=minbase", f"--include={OTHERS}", suite, folder]
         made = subprocess.run(words, stdout=subprocess.PIPE, stderr=subprocess.STDOUT, text=True)
         if made.returncode != 0:
             sys.exit(f"clean_machine: debootstrap could not make a machine:\n{made.stdout[-1000:]}")
@@ -166,6 +168,19 @@ def newer(package, folder):
     path = os.path.join(folder, "newer.deb")
     subprocess.run(["dpkg-deb", "--root-owner-group", "--build", root, path], check=True, stdout=subprocess.DEVNULL)
     return path
+
+
+def library_of(to):
+    """The version of a machine's C library."""
+    version = to.run("dpkg-query", "--show", "--showformat=${Version}", "libc6")[1]
+    return tuple(int(number) for number in re.match(r"(\d+)\.(\d+)", version).groups())
+
+
+def is_refused(ran, to, checks):
+    """A machine whose C library is too old does not take it, and apt says why."""
+    needs = "libc6 (>= " + ".".join(map(str, OLDEST_LIBRARY)) + ")"
+    checks.that(f"it is refused, since it needs {needs}", ran[0] != 0 and needs in ran[1], ran)
+    checks.that("nothing of it is there", to.named() == [], to.named())
 
 
 def looks_right(to, checks):
@@ -288,15 +303,21 @@ def runs_under_systemd(to, checks, package):
 
 def main():
     """Installs, looks, upgrades and purges, and does so with systemd."""
-    if len(sys.argv) not in (2, 3):
-        sys.exit(__doc__.strip())
-    package = os.path.abspath(sys.argv[1])
+    parser = argparse.ArgumentParser(description=__doc__.partition("\n\n")[0])
+    parser.add_argument("package", metavar="PACKAGE", type=os.path.abspath)
+    parser.add_argument("--suite", default="bookworm", help="the Debian that is made (default: %(default)s)")
+    parser.add_argument("--machine", metavar="FOLDER", help="a Debian that was made already")
+    words = parser.parse_args()
+    package = words.package
     checks, began = Checks(), time.monotonic()
     pleases_lintian(package, checks)
-    with machine(sys.argv[2] if len(sys.argv) == 3 else None) as to:
+    with machine(words.machine, words.suite) as to:
         with processes_of_here(to):
             installed = to.install(package)
-            checks.that("it is installed by apt-get", installed[0] == 0, installed)
+            if library_of(to) < OLDEST_LIBRARY:
+                is_refused(installed, to, checks)
+            else:
+                checks.that("it is installed by apt-get", installed[0] == 0, installed)
             if installed[0] == 0:
                 looks_right(to, checks)
                 runs_as_its_unit_says(to, checks)

@@ -1,5 +1,6 @@
 """What `make install` and the Debian package bring. `make deb-test` installs the package on a clean machine."""
 
+import hashlib
 import os
 import re
 import shutil
@@ -45,6 +46,43 @@ class Packaged(harness.Suite):
     def package(self):
         """The path of a package that is built."""
         return self.done(os.path.join(TOP, "packaging", "deb.sh"), harness.Settings.relayd, self.folder).strip()
+
+    def test_two_builds(self):
+        """Two builds give the same package and the same archive, to the byte, whatever the shell's mask and its time zone."""
+        made = []
+        for name, mask, zone in (("first", "077", "Asia/Tokyo"), ("second", "022", "UTC")):
+            os.mkdir(os.path.join(self.folder, name))
+            for script in ("deb.sh", "tarball.sh"):
+                needs = "dpkg-deb" if script == "deb.sh" else "tar"
+                if shutil.which(needs) is None:
+                    self.skipTest(f"{needs} is missing")
+                path = self.done("env", f"TZ={zone}", "sh", "-c", f'umask {mask}; "$0" "$@"', os.path.join(TOP, "packaging", script),
+                                 harness.Settings.relayd, os.path.join(self.folder, name)).strip()
+                with open(path, "rb") as file:
+                    made.append((os.path.basename(path), hashlib.sha256(file.read()).hexdigest()))
+        self.assertEqual(made[:2], made[2:])
+
+    def test_tarball(self):
+        """The archive has its checksums, and runs from any folder."""
+        path = self.done(os.path.join(TOP, "packaging", "tarball.sh"), harness.Settings.relayd, self.folder).strip()
+        self.assertEqual(self.done("sha256sum", "--check", f"{path}.sha256"), f"{os.path.basename(path)}: OK\n")
+        clean = os.path.join(self.folder, "clean")
+        os.mkdir(clean)
+        self.done("tar", "--extract", "--file", path, "--directory", clean)
+        root, = (os.path.join(clean, name) for name in os.listdir(clean))
+        self.assertEqual(self.done("sh", "-c", 'cd "$0" && sha256sum --quiet --check SHA256SUMS', root), "")
+        found = files_below(root)
+        self.assertLessEqual({
+            "/LICENSE", "/SHA256SUMS", "/bin/relayd", "/bin/relayd-supervised", "/lib/systemd/system/relayd.service",
+            "/share/man/man1/relayd.1", "/share/man/man1/relayd-supervised.1", "/share/man/man5/relay.conf.5",
+            "/share/bash-completion/completions/relayd", "/share/doc/relayd/docs/FAULTS.md",
+            "/share/doc/relayd/examples/relay.conf", "/share/doc/relayd/copyright"}, set(found))
+        moved = os.path.join(self.folder, "moved")
+        os.rename(root, moved)
+        config = os.path.join(moved, "share", "doc", "relayd", "examples", "relay")
+        words = ["--config", f"{config}.conf", "--rules", f"{config}-rules.conf"]
+        self.assertEqual(self.done(f"{moved}/bin/relayd", "check", *words), "ok 3 destinations\n")
+        self.assertIn("relayd run", self.done("env", "PATH=/usr/bin:/bin", f"{moved}/bin/relayd-supervised", "--help"))
 
     def test_lintian(self):
         """Debian's own check of packages has no word against it."""
