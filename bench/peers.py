@@ -10,7 +10,7 @@ from shared import DATA
 
 HOST = "127.0.0.1"
 LINE_PORT, PICKLE_PORT, UDP_PORT, ADMIN_PORT = 22003, 22004, 22005, 22006
-STARTS = 3
+STARTS = 5
 TICKS = os.sysconf("SC_CLK_TCK")
 
 
@@ -69,6 +69,10 @@ def wait_for_port(port, seconds=20):
     return False
 
 
+class NotStarted(Exception):
+    """A relay did not start."""
+
+
 class Relay:
     """A relay's process."""
 
@@ -103,7 +107,7 @@ class Relay:
     def __enter__(self):
         # carbon-c-relay crashes now and then as it starts.
         if not any(self.begin() for _ in range(STARTS)):
-            raise RuntimeError(f"{self.name} does not listen")
+            raise NotStarted(self.name)
         return self
 
     def __exit__(self, *_):
