@@ -374,6 +374,52 @@ class Changes(Reloads):
             self.assertIn((b"run.%d" % turn).hex(), text)
 
 
+class Returns(Reloads):
+    """Destinations that one reload removes and a later one brings back, with --spool: files keep what was not sent."""
+
+    def setUp(self):
+        super().setUp()
+        self.spool = self.path("spool")
+        os.mkdir(self.spool)
+        self.there, = self.stores(1)
+        self.port, = free_ports(1)
+        self.names = [f"127.0.0.1:{self.there.port}", f"127.0.0.1:{self.port}"]
+
+    def keeping(self, *options):
+        """A relay that keeps in the folder what it does not send."""
+        return self.running(self.names, options=("--spool", self.spool, *options))
+
+    def goes(self, relay, waits=True):
+        """The second destination is removed, and all of it is over, if somebody is to wait for that."""
+        before = len(relay.log.of(self.names[1]))
+        self.reloads(relay, self.names[:1])
+        if waits:
+            self.wait_for(lambda: any(line.startswith(b"gone, ") for line in relay.log.of(self.names[1])[before:]),
+                          "it is gone")
+
+    def store(self):
+        """Its store, from now on."""
+        store = Store(self.port)
+        self.addCleanup(store.stop)
+        return store.start()
+
+    def test_a_stop_with_nothing_left(self):
+        """It takes no longer than without a return."""
+        def waited():
+            with self.keeping() as relay:
+                store = self.store()
+                self.wait_for(store.is_connected, "it is connected")
+                self.goes(relay)
+                self.reloads(relay, self.names)
+                self.wait_for(lambda: store.connections() == 2, "it is connected again")
+                began = time.monotonic()
+                self.stops(relay)
+                store.stop()
+                return time.monotonic() - began
+
+        self.gets_below(2.0, waited)
+
+
 class Refusals(Reloads):
     """What a relay does not take: it goes on as it was."""
 
