@@ -351,6 +351,24 @@ class Changes(Reloads):
                     self.assertTrue(there["connected"])
             self.stops(relay)
 
+    def test_counts_of_a_sealed_run_go_on(self):
+        """So do those of a run with more offers than a history has room for, and what was queued comes, once and in order."""
+        slow, = self.stores(1, reads=False, room=4096)
+        dests = [f"127.0.0.1:{slow.port}"]
+        lines = numbered(70_000)
+        with self.running(dests, options=("--drain", FOREVER), MAX_QUEUE_SIZE="100000") as relay:
+            relay.lines(text_of(lines))
+            self.wait_for(lambda: relay.totals()["kept"] == len(lines), "all is queued")
+            self.reloads(relay, dests, MAX_QUEUE_SIZE="100000")
+            counts = relay.totals()
+            self.assertEqual([counts[name] for name in ("offered", "kept", "dropped")], [len(lines), len(lines), 0])
+            self.assertEqual(counts["queued"] + counts["taken"], len(lines))
+            slow.read_on()
+            self.wait_for(lambda: len(slow.lines()) == len(lines), "all lines have come")
+            self.assertEqual(slow.lines(), lines)
+            self.stops(relay)
+        self.assertIn(b"run 1: sealed 0\n", relay.log.lines)
+
     def received(self, relay, port):
         """How many datapoints and bad lines the status has."""
         receivers = self.status(relay, port)["receivers"]
