@@ -204,6 +204,20 @@ class Spool(WithRelays):
             self.assertEqual(second, LONG[len(LONG) - len(second):])
             self.settles(relay)
 
+    def test_a_file_that_is_cut_while_it_is_sent(self):
+        """The store gets whole lines of it alone: what comes later is not glued to a part of one."""
+        store, dest = self.store_that_reads_nothing()
+        self.write(dest, text_of(LONG))
+        with self.spooling([dest]) as relay:
+            self.begins_to_send(store)
+            os.truncate(self.path(dest), 1_000)
+            self.queued(relay, [b"live 1 1"])
+            store.read_on()
+            self.wait_for(lambda: b"live 1 1\n" in store.text(), "the next line has come")
+            self.settles(relay)
+        came = {line for taken in store.taken for line in bytes(taken).split(b"\n")[:-1]}
+        self.assertEqual(came - set(LONG), {b"live 1 1"})
+
     def test_it_is_killed_while_the_file_is_sent(self):
         """The file is as it was, and the store gets lines twice at most, never cut ones."""
         store, dest = self.store_that_reads_nothing()

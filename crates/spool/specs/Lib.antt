@@ -1,3 +1,4 @@
 pub mod Held
 pub mod Turn
 pub mod FileConnection
+pub mod Pieces
