@@ -1,2 +1,3 @@
 pub mod SharedSums
 pub mod Bearing
+pub mod Left

@@ -2,3 +2,4 @@ pub mod Shares
 pub mod DoorWithShares
 pub mod LockFact
 pub mod SettleFault
+pub mod Ended

@@ -4,10 +4,11 @@ ghost use Rattle.std.specs.Option.{option_to_list};
 ghost use Rattle.std.specs.Vec.{vec_len, vec_capacity};
 ghost use Rattle.dest_queue.specs.Step.{recorded_of};
 ghost use Rattle.queue_records.specs.Offers.{readers_each};
-ghost use Rattle.queue_records.specs.Settling.{Begins, AreBegun, AreUnsealed, HaveSums};
+ghost use Rattle.queue_records.specs.Settling.{AreUnsealed, HaveSums};
 ghost use Rattle.queue_records.specs.Records.{SettlesBy};
 ghost use Rattle.queue_records.specs.Strangers.{AreOfSet};
-ghost use Rattle.locked_queues.specs.SettleFault.{sealed_counts};
+ghost use Rattle.locked_queues.specs.Ended.{IsLeft, AreLeft};
+ghost use Rattle.locked_queues.specs.SettleFault.{sealed_counts, HasAllCounts};
 
 use crate::copies::Copies;
 use crate::locked::LockedQueue;
@@ -96,6 +97,7 @@ impl EndedSet {
             HaveSums doors.now outlets.now settled.counts.items) }
         ensures sealed_totals { IfErr result (λ fault.
             HaveSums doors.now outlets.now (sealed_counts fault)) }
+        ensures sealed_all { IfErr result (HasAllCounts (vec_len self.counts)) }
         ensures unsealed { IfOk result (λ settled. AreUnsealed settled.counts.items) }
         ensures order { IfOk result (λ settled. SettlesBy (readers_each * self.receivers)
             (map (λ history. map recorded_of history.items) settled.histories.items)
@@ -144,7 +146,8 @@ impl<B: Set> Queues<B> {
 
     /// Ends the queues. It waits for no lock, and takes no memory.
     pub fn end(self, room: EndRoom<B>) -> EndedSet
-        ensures begun { AreBegun B.size (readers_each * B.receivers) result.counts.items
+        // The counts and the datapoints are those of queues of the set's size, to which the histories lead.
+        ensures left { AreLeft B.size (readers_each * B.receivers) result.counts.items result.points.items
             (map (λ history. map recorded_of history.items) result.histories.items) }
         ensures all { (vec_len result.counts ≡ B.dests) × (vec_len result.points ≡ B.dests) }
         ensures set { (result.name ≡ B.name) × (result.receivers ≡ B.receivers) × (result.senders ≡ B.senders) }
@@ -185,16 +188,16 @@ impl<B: Set> Queues<B> {
 
 /// What the queue behind a lock leaves.
 fn end_of<B: Set>(lock: CachePadded<Mutex<LockedQueue<B>>>) -> QueueEnd
-    ensures { Begins B.size (readers_each * B.receivers) result.counts
+    ensures { IsLeft B.size (readers_each * B.receivers) result.counts result.points
         (map recorded_of result.history.items) }
 {
     lock.into_inner().into_inner().end()
 }
 
 impl<B: Set> LockedQueue<B> {
-    /// What the queue leaves: an unsealed history replays to what was counted.
+    /// What the queue leaves.
     fn end(self) -> QueueEnd
-        ensures { Begins B.size (readers_each * B.receivers) result.counts
+        ensures { IsLeft B.size (readers_each * B.receivers) result.counts result.points
             (map recorded_of result.history.items) }
     {
         let LockedQueue {
