@@ -1,7 +1,9 @@
 //! How soon a connection to a host that is gone is noticed: one that lost its power, or its network, says nothing.
 
 use crate::option::set_option;
-use libc::net::{IPPROTO_TCP, SO_KEEPALIVE, SOL_SOCKET, TCP_KEEPCNT, TCP_KEEPIDLE, TCP_KEEPINTVL};
+use libc::net::{
+    IPPROTO_TCP, SO_KEEPALIVE, SOL_SOCKET, TCP_KEEPCNT, TCP_KEEPIDLE, TCP_KEEPINTVL,
+};
 use mio::net::{TcpListener, TcpStream};
 use std::os::fd::AsRawFd;
 
