@@ -35,7 +35,7 @@ use relay_watchers::SystemFacts;
 use reload_files::RelayFiles;
 use senders::Resolve;
 use spool::SpoolDisk;
-use spool_folder::own_folder;
+use spool_folder::{end_with_fault, own_folder};
 use std::alloc::Global;
 use std::io::{BufWriter, Stdout};
 use std::net::{Net, TcpListener, TcpStream};
@@ -140,7 +140,7 @@ where
                 Ok(recorder) => recorder,
                 Err(status) => return Ok(status),
             };
-            let status = relay_run::run(
+            let ended = relay_run::run(
                 threads,
                 alloc,
                 &mut sources_at(rt, alloc, paths)?,
@@ -150,7 +150,8 @@ where
                 recorder,
                 folder,
                 &RelayFiles::new(rt, paths),
-            )?;
+            );
+            let status = end_with_fault(rt, &own, ended)?;
             Ok(match status {
                 Status::Done => recorded,
                 other => other,
