@@ -1,36 +1,38 @@
 //! What a run leaves that another one follows.
 
-ghost use Rattle.std.specs.Prelude.{◌≡◌, ℕ, ◌≤◌, ◌+◌, [], ◌++◌, length, min, take, IfOk, IfSome};
+ghost use Rattle.std.specs.Prelude.{◌≡◌, ℕ, ◌≤◌, ◌+◌, ◌-◌, [], ◌++◌, length, min, take, IfOk, IfSome};
+ghost use Rattle.dest_queue.specs.EarlierCounts.{sum};
 ghost use Rattle.line_text.specs.Print.{printed_lines};
 ghost use Rattle.handover.specs.Rest.{left_text};
-ghost use Rattle.relay_run.specs.LeftDest.{text_left};
+ghost use Rattle.relay_run.specs.LeftDest.{text_left, text_of_both};
 
 use crate::closing::closing_text;
 use crate::dest_slots::DestSlots;
 use crate::gone_dests::GoneDests;
-use crate::left_dest::LeftDest;
+use crate::left_dest::{LeftDest, counts_of};
 use crate::relay::Relay;
 use crate::shape::Shape;
 use crate::thread_records::Records;
-use dest_queue::{Hand, QueuedPoints};
+use dest_queue::{EarlierCounts, Hand, QueuedPoints};
 use dest_writer::Writer;
 use finished_run::{FinishedRun, Recorder, RunPlace, RunShape};
 use handover::Rest;
 use locked_queues::{EndRoom, EndedSet, Set};
 use receivers::HandedStreams;
-use relay_base::{LARGEST_MESSAGE, NoMemory};
+use relay_base::{LARGEST_MESSAGE, MOST_DESTINATIONS, NoMemory};
 use relay_files::RunConfiguration;
 use run_state::RunNotes;
 use std::alloc::Global;
 use std::sync::Arc;
 
 /// What a run leaves that another one follows: what its record is made of, and, by its own places, what was noted, what is left
-/// for each destination, and the connections of each receiver.
+/// for each destination and how much of its queue found no room there, and the connections of each receiver.
 #[derive(Drop)]
 pub(crate) struct EndedRun {
     pub(crate) record: EndedRecord,
     pub(crate) notes: RunNotes,
     pub(crate) slots: DestSlots,
+    pub(crate) dropped: [u64; MOST_DESTINATIONS],
     pub(crate) gone: GoneDests,
     pub(crate) streams: Vec<Arc<HandedStreams>>,
 }
@@ -110,8 +112,12 @@ pub(crate) fn ended_of<B: Set>(
     let mut notes = state.into_notes();
     let mut slots = slots;
     let mut set = queues.end(room);
+    let mut dropped = [0; MOST_DESTINATIONS];
     for place in (0..shape.dests).rev() {
-        add_queue(alloc, &mut set, place, &shape, &mut notes, &mut slots);
+        let count = add_queue(alloc, &mut set, place, &shape, &mut notes, &mut slots);
+        if let Some(dropped) = dropped.get_mut(place) {
+            *dropped = count;
+        }
     }
     for receiver in notes.receivers.as_slice() {
         receiver.begin_run();
@@ -126,13 +132,14 @@ pub(crate) fn ended_of<B: Set>(
         },
         notes,
         slots,
+        dropped,
         gone,
         streams,
     }
 }
 
 /// Puts the datapoints of a destination's queue, the last one that was not taken yet, behind what is left for it, and notes
-/// what was counted.
+/// what was counted. Returns how many found no room, and were dropped.
 fn add_queue(
     alloc: Global,
     set: &mut EndedSet,
@@ -140,40 +147,77 @@ fn add_queue(
     shape: &Shape,
     notes: &mut RunNotes,
     slots: &mut DestSlots,
-)
+) -> u64
     requires limit { (1 ≤ shape.now.limit) × (shape.now.limit ≤ LARGEST_MESSAGE) }
 {
     let (Some(points), Some(counts)) = (set.take_points(), set.counts().get(place).copied()) else {
-        return;
+        return 0;
     };
     let Some(left) = slots.get_mut(place) else {
-        return;
+        return 0;
     };
-    let dropped = add_points(alloc, left, points, shape);
+    let dropped = add_points(alloc, left, points, shape) as u64;
     let (queued, in_hand) = left.counts();
-    if let Some(earlier) = notes.earlier.get_mut(place) {
-        *earlier = earlier.after_run(counts).after_drops(dropped as u64);
-    }
+    let mut lost = dropped;
     if let Some(rest) = notes.rests.get(place) {
         rest.note(queued, in_hand);
+        lost = lost.saturating_add(rest.lost());
+    }
+    if let Some(earlier) = notes.earlier.get_mut(place) {
+        *earlier = without(earlier.after_run(counts), lost);
+    }
+    dropped
+}
+
+/// Counts without so many datapoints that were kept: they are dropped.
+fn without(counts: EarlierCounts, dropped: u64) -> EarlierCounts
+    ensures offered { result.offered ≡ counts.offered }
+    ensures kept { result.kept ≡ counts.kept - dropped }
+    ensures dropped { result.dropped ≡ sum counts.dropped dropped }
+{
+    EarlierCounts {
+        offered: counts.offered,
+        kept: counts.kept.saturating_sub(dropped),
+        dropped: counts.dropped.saturating_add(dropped),
     }
 }
 
 /// Puts the datapoints of a queue behind what is left for its destination. Returns how many were dropped: those for which there
-/// was no room, or all if a sender that had ended early left nothing and there is no memory for what sends them.
+/// was no room, or all if there is no memory for what sends them.
 fn add_points(alloc: Global, left: &mut LeftDest, points: QueuedPoints, shape: &Shape) -> usize
     requires limit { (1 ≤ shape.now.limit) × (shape.now.limit ≤ LARGEST_MESSAGE) }
-    ensures text { (kept : ℕ) × (text_left left.new.rest
-        ≡ text_left left.old.rest ++ printed_lines (take kept points))
+    ensures text { (kept : ℕ) × (text_of_both left.new.rest left.new.later
+        ≡ text_of_both left.old.rest left.old.later ++ printed_lines (take kept points))
         × (length points ≡ min kept (length points) + result) }
-    // With nothing queued before, all of them go on.
-    ensures all { IfSome left.old.rest (λ rest. rest.queued ≡ []
-        → (text_left left.new.rest ≡ text_left left.old.rest ++ printed_lines points)
-        × (result ≡ 0)) }
     ensures files { left.new.files ≡ left.old.files }
     ensures socket { left.new.socket ≡ left.old.socket }
 {
-    if let Some(rest) = &mut left.rest {
+    if left.later.is_some() {
+        return add_to(alloc, &mut left.later, points, shape);
+    }
+    if left.files.is_some() && !has_room(&left.rest, points.len(), shape.size) {
+        return add_to(alloc, &mut left.later, points, shape);
+    }
+    add_to(alloc, &mut left.rest, points, shape)
+}
+
+/// Whether so many datapoints have room behind a rest, which may have this many queued.
+fn has_room(rest: &Option<Rest>, count: usize, size: usize) -> bool {
+    let (queued, _in_hand) = counts_of(rest);
+    queued == 0 || queued.saturating_add(count) <= size
+}
+
+/// Puts the datapoints of a queue behind a rest. Returns how many were dropped.
+fn add_to(alloc: Global, rest: &mut Option<Rest>, points: QueuedPoints, shape: &Shape) -> usize
+    requires limit { (1 ≤ shape.now.limit) × (shape.now.limit ≤ LARGEST_MESSAGE) }
+    ensures text { (kept : ℕ) × (text_left rest.new
+        ≡ text_left rest.old ++ printed_lines (take kept points))
+        × (length points ≡ min kept (length points) + result) }
+    // With nothing queued before, all of them go on.
+    ensures all { IfSome rest.old (λ had. had.queued ≡ []
+        → (text_left rest.new ≡ text_left rest.old ++ printed_lines points) × (result ≡ 0)) }
+{
+    if let Some(rest) = rest {
         return rest.add(points, shape.size);
     }
     let count = points.len();
@@ -181,8 +225,8 @@ fn add_points(alloc: Global, left: &mut LeftDest, points: QueuedPoints, shape: &
         return 0;
     }
     match rest_of(alloc, shape.limit, points) {
-        Ok(rest) => {
-            left.rest = Some(rest);
+        Ok(made) => {
+            *rest = Some(made);
             0
         }
         Err(NoMemory) => count,

@@ -5,7 +5,7 @@ use crate::gone_dests::GoneDests;
 use crate::rest_connector::RestConnector;
 use crate::sender_places::{SenderPlaces, Share};
 use crate::spool_connector::SpoolConnector;
-use crate::spool_left::spool_left;
+use crate::spool_left::{SpooledLeft, spool_left};
 use mio_loops::{SystemTimes, TimeSource};
 use relay_base::DestId;
 use run_state::{GoneEnd, Signals, ThreadWork};
@@ -147,7 +147,8 @@ fn end_connections<R: Wait + Clock, N: Connect>(
     }
 }
 
-/// Writes to files what is left for destinations that are gone, if files keep that, and notes what became of it.
+/// Writes to files what is left for destinations that are gone, if files keep that, and notes what became of it. The files stay in
+/// the slots: a destination that returns is sent what they hold.
 fn spool_all<R: SpoolDisk + Copy + Drop>(
     rt: &R,
     alloc: Global,
@@ -155,8 +156,8 @@ fn spool_all<R: SpoolDisk + Copy + Drop>(
     limit: Option<u64>,
 ) {
     for place in 0..gone.dests.len() {
-        let left = gone.slots.take(place);
-        let end = spool_left(*rt, alloc, left, limit);
+        let SpooledLeft { end, files } = spool_left(*rt, alloc, gone.slots.take(place), limit);
+        gone.slots.leave_files(place, files, None);
         if !gone.has_ended(place) {
             gone.note_over(place, end);
         }

@@ -103,11 +103,11 @@ pub(crate) fn prepared_by<B: Set, R: SpoolDisk, F: ReloadSource>(
     Ok(PreparedRun { next, room })
 }
 
-/// How many destinations a run by a configuration does not have that this one has, or that are gone already.
+/// How many destinations a run by a configuration does not have that this one has, or still sends to though they are gone.
 fn gone_count<B: Set>(relay: &Relay<B>, configuration: &RunConfiguration) -> usize {
     let new = configuration.settings().destinations();
     let old = relay.configuration.settings().destinations();
-    lacked_by(new, old).saturating_add(lacked_by(new, relay.gone.dests.as_slice()))
+    lacked_by(new, old).saturating_add(relay.gone.sent_beside(new))
 }
 
 /// How many of some destinations a list does not have.
