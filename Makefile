@@ -15,7 +15,6 @@
 # make deb-test   installs that package on a clean Debian in a folder, looks at it and purges it, and does so where systemd
 #                 has booted there; as root, with debootstrap and systemd-container; SUITE=trixie: on another Debian
 # make tarball    builds an archive that runs from any folder, in bin/
-# make release-check says whether this commit may get the tag of its version
 # make clean      removes what was built
 #
 # PROGRAM=bin/relayd-quick has e2e, hostile and bench take the quick program, which is built first; PROGRAM=PATH another.
@@ -36,7 +35,7 @@ PROGRAM ?= bin/relayd
 of_program := $(if $(filter bin/relayd-quick,$(PROGRAM)),quick,$(filter bin/relayd,$(PROGRAM)))
 driven := $(if $(filter-out bin/relayd,$(PROGRAM)),--relayd $(PROGRAM))
 
-.PHONY: build quick demo check test quick-test e2e hostile edits bench install deb deb-test tarball image notices release-check clean
+.PHONY: build quick demo check test quick-test e2e hostile edits bench install deb deb-test tarball image notices clean
 
 build: bin/relayd
 
@@ -74,7 +73,7 @@ check:
 test:
 	@$(needs_rt)
 	@$(needs_python)
-	@python3 tools/passed.py test python3 e2e/whole.py
+	@python3 e2e/whole.py
 
 quick-test:
 	@$(needs_rt)
@@ -129,7 +128,7 @@ deb: bin/relayd
 SUITE ?= bookworm
 deb-test: deb
 	@$(needs_python)
-	@python3 tools/passed.py deb-test-$(SUITE) python3 packaging/clean_machine.py --suite $(SUITE) "bin/relayd_$$(bin/relayd --version | cut -d' ' -f2 | tr - '~')_amd64.deb"
+	@python3 packaging/clean_machine.py --suite $(SUITE) "bin/relayd_$$(bin/relayd --version | cut -d' ' -f2 | tr - '~')_amd64.deb"
 
 tarball: bin/relayd
 	@$(call needs,strip,the Debian package binutils has it)
@@ -143,10 +142,6 @@ notices:
 	@$(needs_rt)
 	@$(needs_python)
 	@python3 tools/notices.py
-
-release-check:
-	@$(needs_python)
-	@python3 tools/release_check.py
 
 clean:
 	rm -rf bin bench/data crates/*/out

@@ -1,16 +1,22 @@
 """`relayd reload` where memory is short."""
 
 import collections
-import contextlib
 import os
 import random
-import subprocess
 import tempfile
 
 from fixtures import refused
-from fixtures.harness import LIMIT, Ran, Settings
+from fixtures.harness import Ran, Settings
 from fixtures.reloading import RELOADED, Reloads, numbered, text_of
 from fixtures.stores import free_ports
+
+
+ENDS = {
+    RELOADED: "reloaded",
+    Ran(4, b"", b"relayd: no memory\n"): "as it was",
+    Ran(3, b"", b"relayd: no threads\n"): "as it was",
+    Ran(3, b"", b"relayd: admin: no answer\n"): "no answer",  # there was no memory for its words
+}
 
 
 class Memory(Reloads):
@@ -20,7 +26,7 @@ class Memory(Reloads):
     TRIES = 40  # of the growths
 
     def test_each_growth(self):
-        """The relay goes on as it was, or by the new files, or it ends with status 4: what it held is in its file then."""
+        """The relay goes on, as it was or by the new files, and holds what it held."""
         library = refused.compiled(os.fspath(self.folder))
         growths, tried = self.growths(library), 0
         self.assertGreater(growths, 0)
@@ -72,14 +78,7 @@ class Memory(Reloads):
 
     def end_of(self, relay, ran):
         """How the relay went on behind a reload that ended so."""
-        if ran.status == 3:  # its connection was closed without an answer
-            with contextlib.suppress(subprocess.TimeoutExpired):
-                self.assertEqual(relay.child.wait(1), 4)
-                relay.log.thread.join(LIMIT)
-                self.assertIn(b"relayd: no memory\n", relay.log.lines)
-                return "ended"
-        else:
-            self.assertIn(ran, (RELOADED, Ran(4, b"", b"relayd: no memory\n")))
+        self.assertIn(ran, ENDS)
         self.assertEqual(relay.totals()["queued"], self.COUNT)
         self.stops(relay)
-        return {0: "reloaded", 3: "no answer", 4: "as it was"}[ran.status]
+        return ENDS[ran]

@@ -87,8 +87,8 @@ impl AdminListener {
     }
 
     /// One turn: goes on with each connection, takes those that wait, and then waits for at most this number of
-    /// milliseconds, unless one has asked for a reload. Returns whether one of them asked for the end of the run; it has its
-    /// answer then.
+    /// milliseconds, unless one has asked for a reload. Returns whether a connection has asked for the end of the run, in
+    /// this turn or before; it has its answer then.
     ///
     /// From the first such turn on it leaves alone the connections that have sent nothing: they end when the listener is
     /// dropped, so that a peer knows when the relay has ended.
@@ -111,7 +111,7 @@ impl AdminListener {
         if !goes_on && self.readiness.wait(pause).is_err() {
             rt.sleep(Duration::from_millis(PAUSE_MS));
         }
-        is_stopped
+        self.is_stopping
     }
 
     /// The oldest connection that has asked for a reload: it waits until that is answered ([`AdminListener::answer_reload`]).

@@ -36,6 +36,11 @@ impl HandedStreams {
         Ok(Arc::new(alloc, HandedStreams { is_open, streams })?)
     }
 
+    /// A run begins: connections are not handed over before [`HandedStreams::open`]. Those that are here stay.
+    pub fn shut(&self) {
+        self.is_open.store(false, Ordering::SeqCst);
+    }
+
     /// From now on connections are handed over. Call it before the receiver is stopped.
     pub fn open(&self) {
         self.is_open.store(true, Ordering::SeqCst);
@@ -54,10 +59,8 @@ impl HandedStreams {
         }
     }
 
-    /// Takes all connections, in the order of their tokens, for the receiver of the next run, which hands none over before
-    /// [`HandedStreams::open`]. The receiver before has ended.
+    /// Takes all connections, in the order of their tokens, for the receiver of the next run. The receiver before has ended.
     pub(crate) fn take(&self, alloc: Global) -> Vec<HandedStream> {
-        self.is_open.store(false, Ordering::SeqCst);
         match self.streams.try_lock() {
             Some(mut streams) => mem::replace(&mut *streams, Vec::new(alloc)),
             None => Vec::new(alloc),

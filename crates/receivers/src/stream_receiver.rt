@@ -55,6 +55,7 @@ pub fn receive_streams<R: Wait, A: Accept + Drop, D: Door + Drop, T: TimeSource,
     let Ok(mut reads) = ReadLoop::new(alloc, kind, receiver) else {
         drop(plan);
         listener.note_fault(ReadinessFault::NoMemory);
+        listener.hand_over_others();
         return without_memory(alloc, kind, door);
     };
     let mut plan = plan;

@@ -6,6 +6,7 @@ use Rattle.locked_queues.specs.declared.settled.SettleFault.{SettleFault}
 use Rattle.locked_queues.specs.declared.settled.SettleFault.TheVariants as settle
 use Rattle.mio_loops.specs.declared.readiness.ReadinessFault.{ReadinessFault}
 use Rattle.mio_loops.specs.declared.readiness.ReadinessFault.TheVariants as readiness
+use Rattle.std.proofs.Math.Seq.{take-nil}
 use Rattle.relay_base.proofs.Growth.{Appends-then}
 use Rattle.relay_files.proofs.BytesLemmas.{Appends-kept, Appends-nothing, Keeps-self, GrowsByPart-behind, part-of_written}
 use Rattle.relay_files.specs.Output.{GrowsByPart}
@@ -72,6 +73,17 @@ fails-last false a b c fault wrote (AtLines settled is part) =
     inl (AtLines settled is (GrowsByPart-behind a b c ready_line (closing_line settled) [] (run_text ready_line settled) wrote part (sym (append-nil (run_text ready_line settled)))))
 fails-last false a b c fault wrote (OfThread settled receivers senders is closed) =
     inl (OfThread settled receivers senders is (Appends-then a b c ready_line (closing_line settled) wrote closed))
+
+-- a run that is not the first has nothing to write before it closes
+pub opened-nothing : (is_first : Bool) (held : Option (List ℕ)) → is_first ≡ false → Appends held held (opening is_first)
+opened-nothing true held is = absurd (true≢false is)
+opened-nothing false held is = Appends-nothing held
+
+-- nor has it written anything where it failed before
+pub opened-failed : (is_first : Bool) (a b : Option (List ℕ)) (fault : RelayFault) → is_first ≡ false → FailsBeforeClosing (opening is_first) a b fault → Appends a b (opening is_first)
+opened-failed true a b fault is fails = absurd (true≢false is)
+opened-failed false a b fault is (inl start) = Appends-kept a a b [] (Appends-nothing a) start.1
+opened-failed false a b fault is (inr part) = subst (Appends a b) (take-nil part.1.0) part.1.1
 
 -- ---- what the first thread writes
 

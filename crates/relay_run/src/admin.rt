@@ -3,13 +3,14 @@
 ghost use Rattle.std.specs.Prelude.{◌≡◌, true, length};
 ghost use Rattle.std.specs.Option.{is_none};
 
-use crate::end_waits::{DrainWait, EndWait, FilesWait};
+use crate::end_waits::{DrainWait, EndWait, FilesWait, PartingWait};
 use crate::ended_run::EndedRecord;
 use crate::first_work::FirstWork;
 use crate::listeners::FirstPorts;
 use crate::prepared_run::{NextSource, PreparedRun, prepared_by};
 use crate::relay::Relay;
 use crate::reload_source::{RefusedReload, ReloadSource};
+use crate::runtime::RelayRuntime;
 use crate::start::Process;
 use admin_port::{AdminListener, Answers, AskedReload};
 use admin_report::report;
@@ -20,9 +21,7 @@ use locked_queues::{Queues, Set};
 use mio_loops::{SystemTimes, TimeSource};
 use receivers::{ClosingWait, ReceiverControl};
 use relay_base::{DestId, NoMemory, add, put};
-use relay_watchers::{LogEnd, StatusServer};
 use run_state::DestSources;
-use spool::SpoolDisk;
 use std::alloc::Global;
 use std::net::Net;
 use std::rt::Clock;
@@ -74,23 +73,21 @@ impl<'x, B: Set, R: Wait> Answers<R> for ReportSource<'x, B> {
 /// The admin port of a relay, with what the first thread works on, who reads files for a reload, what all runs have in common,
 /// and who records runs.
 #[derive(Drop)]
-pub(crate) struct AdminPort<'p, B: Set, L, F, K> {
+pub(crate) struct AdminPort<'p, B: Set, F, K> {
     pub(crate) relay: &'p Relay<B>,
-    pub(crate) state: &'p mut FirstState<B, L>,
+    pub(crate) state: &'p mut FirstState<B>,
     pub(crate) files: &'p F,
     pub(crate) process: &'p Process<'p>,
     pub(crate) recorder: &'p mut Option<K>,
 }
 
-/// What the first thread of a run works on: its ports, what is still to do for the run before, the run that is to follow, once it
-/// is known, and what the threads left that watched.
+/// What the first thread of a run works on: its ports, what is still to do for the run before, and the run that is to follow, once it
+/// is known.
 #[derive(Drop)]
-pub(crate) struct FirstState<B: Set, L> {
+pub(crate) struct FirstState<B: Set> {
     pub(crate) ports: FirstPorts,
     pub(crate) before: RunBefore,
     pub(crate) next: Option<PreparedRun<B>>,
-    pub(crate) log: Option<LogEnd<L>>,
-    pub(crate) server: Option<StatusServer>,
 }
 
 /// What the first thread has still to do for the run before, once this one has begun: the connection that waits to be told of
@@ -142,7 +139,7 @@ fn end_before<B: Set, R: Wait, K: Recorder>(
 }
 
 /// Answers commands until one is `stop`, or until another run is ready to follow, which is returned.
-fn answer_until_ended<B: Set, R: Wait + Clock + Net + SpoolDisk, F: ReloadSource>(
+fn answer_until_ended<B: Set, R: RelayRuntime, F: ReloadSource>(
     rt: &R,
     alloc: Global,
     relay: &Relay<B>,
@@ -165,7 +162,7 @@ fn answer_until_ended<B: Set, R: Wait + Clock + Net + SpoolDisk, F: ReloadSource
 }
 
 /// Makes ready the run that a connection has asked for, if one has, or answers why not.
-fn next_run<B: Set, R: SpoolDisk, F: ReloadSource>(
+fn next_run<B: Set, R: RelayRuntime, F: ReloadSource>(
     rt: &R,
     alloc: Global,
     relay: &Relay<B>,
@@ -212,11 +209,8 @@ fn refuse(
     }
 }
 
-impl<B: Set, R: Wait + Clock + Net + SpoolDisk, L: Drop, F: ReloadSource, K: Recorder> FirstWork<
-    R,
-    LogEnd<L>,
-    StatusServer,
-> for AdminPort<'_, B, L, F, K> {
+impl<B: Set, R: RelayRuntime, F: ReloadSource, K: Recorder> FirstWork<R>
+    for AdminPort<'_, B, F, K> {
     ghost is_first = { λ port. is_none port.state.now.before.waiting };
 
     fn is_first(&self) -> bool {
@@ -235,16 +229,24 @@ impl<B: Set, R: Wait + Clock + Net + SpoolDisk, L: Drop, F: ReloadSource, K: Rec
         end_before(rt, alloc, relay, before, self.recorder);
         let source = NextSource {
             files: self.files,
-            folder: self.process.folder,
+            process: self.process,
         };
         put(next, answer_until_ended(rt, alloc, relay, ports, source));
-        if next.is_some() {
-            relay.open_streams();
-        }
     }
 
     fn is_handing(&self, has_failed: bool) -> bool {
         self.state.next.is_some() || has_failed && !self.relay.is_first
+    }
+
+    fn hand_over(&mut self, rt: &R, alloc: Global, has_parting: bool) {
+        let relay = self.relay;
+        relay.open_streams();
+        if !has_parting {
+            return;
+        }
+        relay.gone_gate.wake_all();
+        let wait = PartingWait::new(&relay.gone);
+        answer_until_over(rt, alloc, &mut self.state.ports.admin, relay, wait);
     }
 
     fn close_receivers(&mut self, rt: &R, alloc: Global, controls: &[Arc<ReceiverControl>]) {
@@ -284,11 +286,6 @@ impl<B: Set, R: Wait + Clock + Net + SpoolDisk, L: Drop, F: ReloadSource, K: Rec
     fn wake_senders(&self) {
         self.relay.gate.wake_all();
         self.relay.gone_gate.wake_all();
-    }
-
-    fn keep_watchers(&mut self, log: Option<LogEnd<L>>, server: Option<StatusServer>) {
-        self.state.log = log;
-        self.state.server = server;
     }
 }
 
@@ -339,7 +336,9 @@ fn answer_until_over<R: Wait + Clock + Net, B: Set, E: EndWait<R> + Drop>(
             return;
         }
         let _is_stopped = listener.take_turn(rt, alloc, &watched, millis, END_PAUSE_MS);
-        refuse_reload(alloc, listener, millis);
+        if !relay.state.signals().is_handing() {
+            refuse_reload(alloc, listener, millis);
+        }
     }
     unreachable!()
 }

@@ -7,7 +7,12 @@ use crate::relay::Relay;
 use locked_queues::Set;
 use receivers::ClosingWait;
 use run_state::{Drain, EndState, Signals, SpoolWait, Unsent};
+use std::rt::Clock;
 use std::sync::Wait;
+use std::time::Duration;
+
+/// The milliseconds between two looks at the sender to destinations that are gone.
+const LOOK_MS: u64 = 1;
 
 /// Something that a run waits for at its end.
 pub(crate) trait EndWait<R> {
@@ -47,6 +52,30 @@ impl<R: Wait, B: Set> EndWait<R> for DrainWait<'_, B> {
     fn is_over(&mut self, rt: &R, millis: u64) -> bool {
         let is_over = self.drain.look(rt, &self.unsent, self.signals, millis);
         is_over && !self.gone.are_sent_to(millis)
+    }
+}
+
+/// The sender to destinations that are gone ends, since another run follows.
+#[derive(Drop)]
+pub(crate) struct PartingWait<'x> {
+    gone: &'x GoneDests,
+}
+
+impl<'x> PartingWait<'x> {
+    /// The sender to these destinations ends.
+    pub(crate) fn new(gone: &'x GoneDests) -> PartingWait<'x> {
+        PartingWait { gone }
+    }
+}
+
+impl<R: Clock> EndWait<R> for PartingWait<'_> {
+    /// It sleeps itself: the admin port does not wait while another reload is asked for, which the next run answers.
+    fn is_over(&mut self, rt: &R, _millis: u64) -> bool {
+        if self.gone.is_sender_over() {
+            return true;
+        }
+        rt.sleep(Duration::from_millis(LOOK_MS));
+        false
     }
 }
 

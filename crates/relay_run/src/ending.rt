@@ -1,12 +1,14 @@
 //! How a run ends once the first thread has served: the receivers, of datagrams last, then the senders, at last those that
 //! watch.
 //!
-//! If another run follows, nothing is closed and nothing is waited for: what the threads hold goes on there.
+//! If another run follows, nothing is closed: what the threads hold goes on there. What may take long, the files of destinations
+//! that are gone, is waited for while receivers and senders go on.
 
 ghost use Rattle.std.specs.Prelude.{◌≡◌, ◌⊎◌, Err, if◌then◌else◌};
 
 use crate::first_work::FirstWork;
 use crate::thread_end::ThreadEnd;
+use crate::thread_records::{LeftRoom, RecordsRoom};
 use crate::threads::StartedThreads;
 use finished_run::FedLog;
 use locked_queues::{DoorRecord, OutletRecord};
@@ -19,28 +21,24 @@ use std::rt::Clock;
 use std::sync::{Arc, Wait};
 use std::thread::{JoinHandle, Threads};
 
-/// How the threads ended, the receivers and the senders in order, with the records of unused seats, and whether the run went on
-/// until it was to end.
+/// How the threads ended, the receivers and the senders in order, with the records of unused seats, room for all records, and whether
+/// the run went on until it was to end.
 #[derive(Drop)]
 pub(crate) struct ThreadEnds {
     pub(crate) receivers: Vec<ThreadEnd<DoorRecord, FedLog>>,
     pub(crate) senders: Vec<ThreadEnd<OutletRecord, Vec<WriteLog>>>,
     pub(crate) unused: Vec<DoorRecord>,
+    pub(crate) room: RecordsRoom,
     pub(crate) served: Result<(), RelayFault>,
 }
 
 /// Ends the threads, once the first has served in this way: the receivers, then the senders, and at last those that watch
 /// them. What they left is kept, or memory ran out.
-pub(crate) fn end_threads<
-    R: Threads + Wait + Clock,
-    O: Send + Drop,
-    S: Send + Drop,
-    A: FirstWork<R, O, S>,
->(
+pub(crate) fn end_threads<R: Threads + Wait + Clock, A: FirstWork<R>>(
     rt: &R,
     alloc: Global,
     signals: &Signals,
-    started: StartedThreads<O, S>,
+    started: StartedThreads,
     served: Result<(), RelayFault>,
     work: &mut A,
 ) -> ThreadEnds
@@ -54,11 +52,18 @@ pub(crate) fn end_threads<
         servers,
         unused,
         controls,
+        room,
         ..
     } = started;
+    let LeftRoom {
+        receivers: receiver_ends,
+        senders: sender_ends,
+        records: room,
+    } = room;
     let is_handing = work.is_handing(served.is_err());
     let is_last = served.is_ok() && !is_handing;
-    let server = end_server(rt, signals, servers, is_handing);
+    let servers = end_server(rt, alloc, signals, servers, is_handing);
+    let parting = hand_over_if(rt, alloc, is_handing, parting, work);
     if is_last {
         work.close_receivers(rt, alloc, controls.as_slice());
     }
@@ -68,8 +73,8 @@ pub(crate) fn end_threads<
     }
     let (receivers, are_kept) = end_receivers(
         rt,
-        alloc,
         signals,
+        receiver_ends,
         receivers,
         controls.as_slice(),
         work,
@@ -81,62 +86,62 @@ pub(crate) fn end_threads<
     }
     signals.stop_senders();
     work.wake_senders();
-    let (senders, are_kept) = join_all(rt, alloc, senders);
+    let (senders, are_kept) = join_all(rt, sender_ends, senders);
     let served = served_if(are_kept, served);
-    let _ends = join_all(rt, alloc, parting);
+    join_each(rt, parting);
     signals.stop_watchers();
-    let log = join_last(rt, logs);
-    let server = match server {
-        ServerEnd::Ended(server) => server,
-        ServerEnd::Runs(servers) => join_last(rt, servers),
-    };
-    work.keep_watchers(log, server);
+    join_each(rt, logs);
+    join_each(rt, servers);
     ThreadEnds {
         receivers,
         senders,
         unused,
+        room,
         served,
     }
 }
 
-/// The status server, if there is one, or its thread, which goes on.
-#[derive(Drop)]
-enum ServerEnd<S> {
-    Ended(Option<S>),
-    Runs(Vec<JoinHandle<S>>),
-}
-
 /// If another run follows, says so to the threads, and ends that of the status server: it takes some milliseconds, in which the
-/// others go on.
-fn end_server<R: Threads + Wait, S: Send + Drop>(
-    rt: &R,
-    signals: &Signals,
-    servers: Vec<JoinHandle<S>>,
-    is_handing: bool,
-) -> ServerEnd<S> {
-    if !is_handing {
-        return ServerEnd::Runs(servers);
-    }
-    signals.begin_handing();
-    signals.stop_status();
-    ServerEnd::Ended(join_last(rt, servers))
-}
-
-/// Joins the thread of a list that has one at most. Returns how it ended.
-fn join_last<R: Threads + Wait, T: Send + Drop>(rt: &R, children: Vec<JoinHandle<T>>) -> Option<T> {
-    let mut end = None;
-    for child in children {
-        end = Some(child.join(rt));
-    }
-    end
-}
-
-/// Ends the receivers: those of connections, and once they have ended the one of datagrams. If there is one, it is the last.
-/// Returns how they ended, in order, and whether there was memory to keep all of that.
-fn end_receivers<R: Threads + Wait + Clock, O, S, A: FirstWork<R, O, S>>(
+/// others go on. Returns its thread if none follows.
+fn end_server<R: Threads + Wait>(
     rt: &R,
     alloc: Global,
     signals: &Signals,
+    servers: Vec<JoinHandle<()>>,
+    is_handing: bool,
+) -> Vec<JoinHandle<()>> {
+    if !is_handing {
+        return servers;
+    }
+    signals.begin_handing();
+    signals.stop_status();
+    join_each(rt, servers);
+    Vec::new(alloc)
+}
+
+/// If another run follows, has connections handed over, and ends the sender to destinations that are gone, which may be writing
+/// files, while the others go on. Returns its thread if none follows.
+fn hand_over_if<R: Threads + Wait + Clock, A: FirstWork<R>>(
+    rt: &R,
+    alloc: Global,
+    is_handing: bool,
+    parting: Vec<JoinHandle<()>>,
+    work: &mut A,
+) -> Vec<JoinHandle<()>> {
+    if !is_handing {
+        return parting;
+    }
+    work.hand_over(rt, alloc, !parting.is_empty());
+    join_each(rt, parting);
+    Vec::new(alloc)
+}
+
+/// Ends the receivers: those of connections, and once they have ended the one of datagrams. If there is one, it is the last.
+/// Returns how they ended, in order, in a list that has room for that, and whether there was memory to keep it.
+fn end_receivers<R: Threads + Wait + Clock, A: FirstWork<R>>(
+    rt: &R,
+    signals: &Signals,
+    room: Vec<ThreadEnd<DoorRecord, FedLog>>,
     receivers: Vec<JoinHandle<ThreadEnd<DoorRecord, FedLog>>>,
     controls: &[Arc<ReceiverControl>],
     work: &A,
@@ -145,7 +150,7 @@ fn end_receivers<R: Threads + Wait + Clock, O, S, A: FirstWork<R, O, S>>(
     let last = receivers.pop();
     signals.stop_receivers();
     wake_receivers(controls);
-    let (mut ends, mut are_kept) = join_all(rt, alloc, receivers);
+    let (mut ends, mut are_kept) = join_all(rt, room, receivers);
     work.stop_datagrams();
     wake_receivers(controls);
     if let Some(last) = last {
@@ -165,13 +170,20 @@ fn served_if(are_kept: bool, served: Result<(), RelayFault>) -> Result<(), Relay
     }
 }
 
-/// Joins all of these threads. Returns how they ended, and whether there was memory to keep all of that.
+/// Joins these threads.
+fn join_each<R: Threads + Wait>(rt: &R, children: Vec<JoinHandle<()>>) {
+    for child in children {
+        child.join(rt);
+    }
+}
+
+/// Joins all of these threads. Returns how they ended, in a list that has room for that, and whether there was memory to keep it.
 fn join_all<R: Threads + Wait, T: Send + Drop>(
     rt: &R,
-    alloc: Global,
+    room: Vec<T>,
     children: Vec<JoinHandle<T>>,
 ) -> (Vec<T>, bool) {
-    let mut ends = Vec::new(alloc);
+    let mut ends = room;
     let mut are_kept = true;
     for child in children {
         if ends.push(child.join(rt)).is_err() {

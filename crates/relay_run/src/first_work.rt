@@ -13,7 +13,7 @@ use std::rt::Clock;
 use std::sync::{Arc, Wait};
 
 /// What the first thread does while the others run, beside saying that the relay is ready. It does not reach the output.
-pub(crate) trait FirstWork<R: Wait + Clock, O, S> {
+pub(crate) trait FirstWork<R: Wait + Clock> {
     ghost use Rattle.std.specs.Prelude.{Bool};
 
     // Whether no run was before.
@@ -30,6 +30,10 @@ pub(crate) trait FirstWork<R: Wait + Clock, O, S> {
     /// which has failed. What a run inherited that could not begin is not lost either.
     fn is_handing(&self, has_failed: bool) -> bool;
 
+    /// What the threads hold goes on elsewhere: connections are handed over from now on. If there is a sender to destinations that
+    /// are gone, it is to end, and commands are answered until it has written its files.
+    fn hand_over(&mut self, rt: &R, alloc: Global, has_parting: bool);
+
     /// Closes the receivers before they are stopped, so that they read what was sent to them.
     fn close_receivers(&mut self, rt: &R, alloc: Global, controls: &[Arc<ReceiverControl>]);
 
@@ -42,14 +46,11 @@ pub(crate) trait FirstWork<R: Wait + Clock, O, S> {
 
     /// Ends the waits of the senders, so that they see their stop flags.
     fn wake_senders(&self);
-
-    /// Keeps what the threads left that watched: that of the log, and that of the status server.
-    fn keep_watchers(&mut self, log: Option<O>, server: Option<S>);
 }
 
 /// Says that the relay is ready, if no run was before, and serves. If not all threads have begun, it is out of memory, and
 /// nothing is written.
-pub(crate) fn serve_if<R: Wait + Clock, O, S, A: FirstWork<R, O, S>, W: Write>(
+pub(crate) fn serve_if<R: Wait + Clock, A: FirstWork<R>, W: Write>(
     rt: &R,
     alloc: Global,
     are_begun: bool,

@@ -7,6 +7,7 @@ use relay_base::NoMemory;
 use relay_watchers::GoneDest;
 use run_state::{GoneEnd, GoneNotes, RestNotes};
 use std::alloc::Global;
+use std::sync::atomic::{AtomicBool, Ordering};
 
 /// The destinations that the runs before had and this one has not, as far as something is left for them: what that is, until
 /// which milliseconds it is sent, and what becomes of it. All lists are in the same order.
@@ -17,6 +18,8 @@ pub(crate) struct GoneDests {
     pub(crate) until: Vec<u64>,
     pub(crate) rests: Vec<RestNotes>,
     pub(crate) slots: DestSlots,
+    // Whether their sender has ended.
+    is_sender_over: AtomicBool,
 }
 
 /// A destination that is gone, as it is sent to and as the log shows it, and until which milliseconds it is sent to.
@@ -47,7 +50,23 @@ impl GoneDests {
             until: Vec::with_capacity(alloc, count)?,
             rests: Vec::with_capacity(alloc, count)?,
             slots: DestSlots::new(alloc, count)?,
+            is_sender_over: AtomicBool::new(false),
         })
+    }
+
+    /// Another run is to send to them.
+    pub(crate) fn begin_again(&self) {
+        self.is_sender_over.store(false, Ordering::SeqCst);
+    }
+
+    /// Their sender has ended.
+    pub(crate) fn note_sender_over(&self) {
+        self.is_sender_over.store(true, Ordering::SeqCst);
+    }
+
+    /// Whether their sender has ended.
+    pub(crate) fn is_sender_over(&self) -> bool {
+        self.is_sender_over.load(Ordering::SeqCst)
     }
 
     /// Adds one, for which there is room, with what is left for it.

@@ -10,6 +10,7 @@
 #![tactic(auto)]
 
 mod admin;
+mod another_try;
 mod closing;
 mod counted_connector;
 mod datagram_room;
@@ -36,8 +37,10 @@ mod receiver_setup;
 mod relay;
 mod relay_jobs;
 mod reload_source;
+mod reserve;
 mod rest_connector;
 mod run_command;
+mod run_parts;
 mod running;
 mod runtime;
 mod sender_job;
@@ -45,6 +48,7 @@ mod sender_places;
 mod sender_setup;
 mod shape;
 mod shared_listener;
+mod shared_parts;
 mod shared_stream;
 mod spool_connector;
 mod spool_folder;

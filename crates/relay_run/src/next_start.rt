@@ -5,9 +5,8 @@ use crate::ended_run::EndedRun;
 use crate::gone_dests::{GoneDests, PartingDest};
 use crate::inherited::Inherited;
 use crate::left_dest::LeftDest;
-use crate::listeners::{FirstPorts, Ports};
+use crate::listeners::FirstPorts;
 use crate::prepared_run::{KeptPlaces, NextPlan};
-use crate::shape::shape_of;
 use crate::start::{Process, Start};
 use conf_text::Dest;
 use dest_queue::EarlierCounts;
@@ -32,20 +31,6 @@ pub(crate) struct NewPlaces {
     parting: Vec<Option<PartingDest>>,
 }
 
-/// The places of the destinations of the run that follows this one, at these milliseconds. The line of the log gets what is to be
-/// said of files. Refuses if out of memory; what is left is as it was then.
-pub(crate) fn places_after(
-    alloc: Global,
-    ended: &EndedRun,
-    prepared: &mut NextPlan,
-    process: &Process<'_>,
-    millis: u64,
-) -> Result<NewPlaces, NoMemory> {
-    let NextPlan { line, files, .. } = &mut *prepared;
-    line.push_str(files.news.as_str())?;
-    places_of(alloc, ended, prepared, process, millis)
-}
-
 /// What a run begins with that follows this one, and has these places.
 pub(crate) fn start_after(
     alloc: Global,
@@ -55,11 +40,11 @@ pub(crate) fn start_after(
     first: FirstPorts,
     server: Option<StatusServer>,
     logged: Vec<ReceiverLog>,
-    process: &Process<'_>,
 ) -> Start {
     let NextPlan {
         configuration,
-        receivers,
+        shape,
+        parts,
         blank,
         places: KeptPlaces { kept, returned },
         files,
@@ -77,22 +62,20 @@ pub(crate) fn start_after(
     );
     let stores = kept.len().saturating_add(inherited.gone.dests.len());
     first.keep_for_stores(stores_before, stores);
-    let shape = shape_of(configuration.settings(), receivers.len(), process);
     Start {
         configuration,
         shape,
-        ports: Ports {
-            receivers,
-            first,
-            status: server,
-        },
+        parts,
+        first,
+        status: server,
         blank,
         inherited,
     }
 }
 
-/// Room for all that goes to a new place.
-fn places_of(
+/// The places of the destinations of the run that follows this one, at these milliseconds. Refuses if out of memory; what is left
+/// is as it was then.
+pub(crate) fn places_after(
     alloc: Global,
     ended: &EndedRun,
     prepared: &NextPlan,

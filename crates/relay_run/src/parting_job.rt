@@ -69,6 +69,7 @@ impl<'x, R: Wait + Clock + Net + SpoolDisk + Copy + Drop> ThreadWork<R, ()> for 
         if !signals.is_handing() {
             spool_all(rt, alloc, gone, limit);
         }
+        gone.note_sender_over();
     }
 }
 
@@ -99,7 +100,7 @@ fn send_until_over<R: Wait + Clock, N: Connect>(
         let millis = times.millis();
         send_to_all(connector, gone, millis);
         connector.about_to_wait();
-        if !gone.are_sent_to(millis) || signals.senders_end() {
+        if !gone.are_sent_to(millis) || ends(signals) {
             return;
         }
         if connector.wait(MOST_WAIT_MS).is_err() {
@@ -107,6 +108,11 @@ fn send_until_over<R: Wait + Clock, N: Connect>(
         }
     }
     unreachable!()
+}
+
+/// Whether it ends: with the senders, or, if another run follows, before them.
+fn ends(signals: &Signals) -> bool {
+    signals.senders_end() || signals.is_handing()
 }
 
 /// Sends some to each destination that is gone, and notes which have all.
@@ -141,7 +147,8 @@ fn end_connections<R: Wait + Clock, N: Connect>(
     let end = times.millis().saturating_add(LONGEST_END_MS);
     for _ in rt.forever() {
         let millis = times.millis();
-        if connector.is_quiet() || millis >= end || connector.wait(MOST_WAIT_MS).is_err() {
+        let is_over = connector.is_quiet() || millis >= end || signals.is_handing();
+        if is_over || connector.wait(MOST_WAIT_MS).is_err() {
             return;
         }
     }

@@ -25,9 +25,12 @@ pub(crate) fn parting_job<'x, B: Set, R: RelayRuntime>(
         return Ok(None);
     };
     let gone = &relay.gone;
-    let (rt, alloc) = (*maker.rt, maker.alloc);
+    if gone.are_none() {
+        return Ok(None);
+    }
+    let (rt, alloc, threads) = (*maker.rt, maker.alloc, maker.hosts);
     let dests = gone.dests.as_slice();
-    let connector = match StoreConnector::new(rt, alloc, readiness, alarm, dests, 0, 1) {
+    let connector = match StoreConnector::new(rt, alloc, threads, readiness, alarm, dests, 0, 1) {
         Ok(connector) => connector,
         Err(fault) => return Err(output_fault(fault)),
     };

@@ -1,11 +1,16 @@
 //! A run that is to follow the one that runs.
 
-ghost use Rattle.std.specs.Prelude.{◌≤◌};
+ghost use Rattle.std.specs.Prelude.{◌≡◌, ◌≤◌, length};
 
-use crate::listeners::{BoundPort, FirstPorts};
+use crate::listeners::FirstPorts;
 use crate::relay::Relay;
 use crate::reload_source::{RefusedReload, ReloadSource};
+use crate::reserve::{Reserve, do_threads_begin};
+use crate::run_parts::RunParts;
+use crate::runtime::RelayRuntime;
+use crate::shape::{Shape, shape_of};
 use crate::spool_folder::{SpoolFolder, open_new_files};
+use crate::start::Process;
 use admin_client::Refusal;
 use conf_text::{Dest, Setting, Settings};
 use config_changes::{OtherChanges, first_fixed_change, kept_places, place_of, push_reload_line};
@@ -17,37 +22,49 @@ use relay_files::{RelayFault, RunConfiguration};
 use spool::{SpoolDisk, SpoolFiles};
 use std::alloc::Global;
 
-/// A run that is to follow the one that runs, and room for what that leaves.
+/// A run that is to follow the one that runs, room for what that leaves, and the memory that is kept for the beginning of the next.
 #[derive(Drop)]
 pub(crate) struct PreparedRun<B: Set> {
     pub(crate) next: NextPlan,
     pub(crate) room: EndRoom<B>,
+    pub(crate) reserve: Reserve,
 }
 
-/// A run that is to follow the one that runs: its configuration, which was read and checked; its ports; the totals of its
-/// queues; where each of its destinations is among those of the run, and among those that are gone; the files of the others;
+/// A run that is to follow the one that runs: its configuration, which was read and checked, and its numbers; what the system
+/// gave it; the totals of its queues; where each of its destinations is among those of the run, and among those that are gone; the files of the others;
 /// the line of the log; and the connection that waits for the answer.
 #[derive(Drop)]
 pub(crate) struct NextPlan {
     pub(crate) configuration: RunConfiguration,
-    pub(crate) receivers: Vec<BoundPort>,
+    pub(crate) shape: Shape,
+    pub(crate) parts: RunParts,
     pub(crate) blank: BlankTotals,
     pub(crate) places: KeptPlaces,
     pub(crate) files: SpoolFiles,
     pub(crate) line: String,
     pub(crate) connection: u64,
+    ghost dests: { (shape.dests ≡ length configuration.settings.routing.destinations)
+        × (1 ≤ shape.dests) × (shape.dests ≤ 64) },
+    ghost size: { (1 ≤ shape.size) × (shape.size ≤ 1000000) },
+    ghost limit: { (1 ≤ shape.limit) × (shape.limit ≤ 10000) },
+    ghost receivers: { (1 ≤ shape.receivers) × (shape.receivers ≤ 8) },
+    ghost senders: { (1 ≤ shape.senders) × (shape.senders ≤ 8) },
 }
 
-/// Where the next run comes from: who reads the files that a request names, and the folder of the spool, if there is one.
+/// Where the next run comes from: who reads the files that a request names, and what all runs have in common.
 #[derive(Drop)]
 pub(crate) struct NextSource<'s, F> {
     pub(crate) files: &'s F,
-    pub(crate) folder: Option<SpoolFolder<'s>>,
+    pub(crate) process: &'s Process<'s>,
 }
+
+/// How many threads a run has at most beside its receivers and its senders: that to destinations that are gone, the log, and the
+/// status server.
+const MOST_OTHERS: usize = 3;
 
 /// Reads the files that a request names, and makes ready what a run by them needs before the one that runs ends. Refuses a
 /// fault of the files, another setting of a port, and what the system refuses; then nothing has changed.
-pub(crate) fn prepared_by<B: Set, R: SpoolDisk, F: ReloadSource>(
+pub(crate) fn prepared_by<B: Set, R: RelayRuntime, F: ReloadSource>(
     rt: &R,
     alloc: Global,
     relay: &Relay<B>,
@@ -64,7 +81,8 @@ pub(crate) fn prepared_by<B: Set, R: SpoolDisk, F: ReloadSource>(
         drop(configuration);
         return Err(needs_restart(alloc, setting));
     }
-    if gone_count(relay, &configuration) > MOST_DESTINATIONS {
+    let gone_count = gone_count(relay, &configuration);
+    if gone_count > MOST_DESTINATIONS {
         drop(configuration);
         let text = String::from_str(
             alloc,
@@ -72,16 +90,27 @@ pub(crate) fn prepared_by<B: Set, R: SpoolDisk, F: ReloadSource>(
         );
         return Err(refused(alloc, Refusal::Device, text));
     }
-    let receivers = match ports.for_receivers(alloc) {
-        Ok(receivers) => receivers,
-        Err(fault) => {
+    let settings = configuration.settings();
+    let shape = shape_of(settings, ports.kept.len(), source.process);
+    let may_have_gone = gone_count > 0;
+    let system = match system_parts(
+        rt,
+        alloc,
+        ports,
+        settings,
+        &shape,
+        source.process,
+        may_have_gone,
+    ) {
+        Ok(system) => system,
+        Err(shortage) => {
             drop(configuration);
-            return Err(refused_for(alloc, fault));
+            return Err(shortage.refusal(alloc));
         }
     };
-    let Ok(made) = made_ready(rt, alloc, relay, &configuration, source.folder) else {
+    let Ok(made) = made_ready(rt, alloc, relay, &configuration, source.process.folder) else {
         drop(configuration);
-        drop(receivers);
+        drop(system);
         return Err(RefusedReload::no_memory(alloc));
     };
     let MadeReady {
@@ -91,16 +120,22 @@ pub(crate) fn prepared_by<B: Set, R: SpoolDisk, F: ReloadSource>(
         blank,
         room,
     } = made;
+    let (parts, reserve) = system;
     let next = NextPlan {
         configuration,
-        receivers,
+        shape,
+        parts,
         blank,
         places,
         files,
         line,
         connection,
     };
-    Ok(PreparedRun { next, room })
+    Ok(PreparedRun {
+        next,
+        room,
+        reserve,
+    })
 }
 
 /// How many destinations a run by a configuration does not have that this one has, or that are gone already.
@@ -148,11 +183,12 @@ fn made_ready<B: Set, R: SpoolDisk>(
 ) -> Result<MadeReady<B>, NoMemory> {
     let settings = configuration.settings();
     try_queues(alloc, settings, relay.shape.receivers)?;
-    let line = reload_line(alloc, &relay.configuration, configuration)?;
+    let mut line = reload_line(alloc, &relay.configuration, configuration)?;
     let places = kept_of(alloc, relay, settings.destinations())?;
     let blank = BlankTotals::new(alloc)?;
     let room = relay.queues.end_room(alloc)?;
     let files = new_files(rt, alloc, settings.destinations(), &places, folder)?;
+    line.push_str(files.news.as_str())?;
     Ok(MadeReady {
         places,
         files,
@@ -234,11 +270,81 @@ fn needs_restart(alloc: Global, setting: Setting) -> RefusedReload {
     )
 }
 
-/// The refusal for a fault of the system.
-fn refused_for(alloc: Global, fault: RelayFault) -> RefusedReload {
-    match fault {
-        RelayFault::NoMemory => RefusedReload::no_memory(alloc),
-        fault => refused(alloc, Refusal::Device, format!(in alloc; "{fault}\n")),
+/// What the system has too few of for another run beside the one that runs.
+#[derive(Clone, Copy)]
+enum Shortage {
+    Descriptors,
+    Threads,
+    Memory,
+}
+
+impl Shortage {
+    /// The shortage that is behind a fault of the start, of a run whose ports are bound.
+    fn of(fault: RelayFault) -> Shortage {
+        match fault {
+            RelayFault::NoMemory => Shortage::Memory,
+            _ => Shortage::Descriptors,
+        }
+    }
+
+    /// The refusal for it.
+    fn refusal(self, alloc: Global) -> RefusedReload {
+        let text = match self {
+            Shortage::Memory => return RefusedReload::no_memory(alloc),
+            Shortage::Descriptors => "no descriptors\n",
+            Shortage::Threads => "no threads\n",
+        };
+        refused(alloc, Refusal::Device, String::from_str(alloc, text))
+    }
+}
+
+/// What the system gives a run of this shape before the one that runs ends, and the memory that is kept for its beginning.
+fn system_parts<R: RelayRuntime>(
+    rt: &R,
+    alloc: Global,
+    ports: &FirstPorts,
+    settings: &Settings,
+    shape: &Shape,
+    process: &Process<'_>,
+    may_have_gone: bool,
+) -> Result<(RunParts, Reserve), Shortage> {
+    begin_threads(rt, alloc, settings, process)?;
+    let receivers = match ports.for_receivers(alloc) {
+        Ok(receivers) => receivers,
+        Err(fault) => return Err(Shortage::of(fault)),
+    };
+    let threads = shape
+        .receivers
+        .saturating_add(shape.senders)
+        .saturating_add(MOST_OTHERS);
+    let parts = match RunParts::new(rt, alloc, receivers, *shape, may_have_gone) {
+        Ok(parts) => parts,
+        Err(fault) => return Err(Shortage::of(fault)),
+    };
+    match Reserve::new(alloc, threads) {
+        Ok(reserve) => Ok((parts, reserve)),
+        Err(NoMemory) => {
+            drop(parts);
+            Err(Shortage::Memory)
+        }
+    }
+}
+
+/// Begins the threads that look up the hosts of settings, and tries whether others begin.
+fn begin_threads<R: RelayRuntime>(
+    rt: &R,
+    alloc: Global,
+    settings: &Settings,
+    process: &Process<'_>,
+) -> Result<(), Shortage> {
+    match do_threads_begin(*rt, alloc) {
+        Ok(true) => {}
+        Ok(false) => return Err(Shortage::Threads),
+        Err(NoMemory) => return Err(Shortage::Memory),
+    }
+    match process.hosts.begin(*rt, alloc, settings.destinations()) {
+        Ok(()) => Ok(()),
+        Err(NoMemory) => Err(Shortage::Threads),
     }
 }
 

@@ -185,6 +185,8 @@ pub(crate) struct ReceiverJob<'d, B: Set, R: Wait> {
     pub(crate) share: Share<'d>,
     // They say when a receiver of datagrams stops.
     pub(crate) orders: &'d EndOrders,
+    // Where its connections are handed over. The thread takes those of the run before from there.
+    pub(crate) handed: Option<&'d Arc<HandedStreams>>,
     // Whether its thread returns what its readers were fed, or drops it at its end.
     pub(crate) is_recorded: bool,
     pub(crate) began: Option<Instant>,
@@ -266,14 +268,18 @@ fn receive_by_plan<'d, B: Set, R: Wait + Clock>(
     requires dests { plan.destinations ≤ length job.door.made.totals }
 {
     let ReceiverJob {
-        inlet,
+        mut inlet,
         receiver,
         door,
         share,
         orders,
+        handed,
         began,
         ..
     } = job;
+    if let Some(handed) = handed {
+        let _set = inlet.set_handed(handed);
+    }
     let times = SystemTimes::since(rt, began);
     match inlet {
         Inlet::Lines(listener, _) => receive_connections(

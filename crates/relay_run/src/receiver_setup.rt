@@ -3,7 +3,6 @@
 ghost use Rattle.std.specs.Prelude.{◌≡◌, ◌≤◌, ◌<◌, true, length, IfErr};
 ghost use Rattle.relay_run.specs.Running.{is_start_fault};
 
-use crate::listeners::BoundPort;
 use crate::receiver_job::{Inlet, ReceiverJob};
 use crate::relay_jobs::JobMaker;
 use crate::runtime::RelayRuntime;
@@ -11,24 +10,24 @@ use crate::shared_listener::Share;
 use crate::thread_jobs::Receiving;
 use locked_queues::{DoorRecord, DoorSeat, LockedDoor, MOST_RECEIVERS, Set};
 use log_lines::ReceiverNotes;
-use receivers::{HandedStreams, ReceiverControl};
+use receivers::ReceiverControl;
 use relay_base::{NoMemory, add};
 use relay_files::RelayFault;
 use relay_watchers::ReceiverLog;
 use std::sync::Arc;
 
-/// A receiver for each port, each with its door, and adds where the events of each are noted. A seat that is left over is closed
+/// A receiver for each inlet, each with its door, and adds where the events of each are noted. A seat that is left over is closed
 /// unused.
 pub(crate) fn receivers_of<'x, B: Set, R: RelayRuntime>(
     maker: &JobMaker<'x, B, R>,
     doors: Vec<DoorSeat<B>>,
-    ports: Vec<BoundPort>,
+    inlets: Vec<Inlet>,
     logs: &mut Vec<ReceiverLog>,
 ) -> Result<Receiving<ReceiverJob<'x, B, R>>, RelayFault>
     ensures { IfErr result (λ fault. is_start_fault fault ≡ true) }
 {
     let mut receiving = Receiving::none(maker.alloc);
-    match add_seats(maker, doors, ports, &mut receiving, logs) {
+    match add_seats(maker, doors, inlets, &mut receiving, logs) {
         Ok(()) => Ok(receiving),
         Err(fault) => {
             drop(receiving);
@@ -37,28 +36,28 @@ pub(crate) fn receivers_of<'x, B: Set, R: RelayRuntime>(
     }
 }
 
-/// Adds the receivers at these ports, and the records of seats that are left over.
+/// Adds the receivers of these inlets, and the records of seats that are left over.
 fn add_seats<'x, B: Set, R: RelayRuntime>(
     maker: &JobMaker<'x, B, R>,
     doors: Vec<DoorSeat<B>>,
-    ports: Vec<BoundPort>,
+    inlets: Vec<Inlet>,
     receiving: &mut Receiving<ReceiverJob<'x, B, R>>,
     logs: &mut Vec<ReceiverLog>,
 ) -> Result<(), RelayFault>
     ensures { IfErr result (λ fault. is_start_fault fault ≡ true) }
 {
-    let mut ports = ports.into_iter();
+    let mut inlets = inlets.into_iter();
     for (seat, notes) in doors.into_iter().zip(maker.relay.state.receivers()) {
-        add_seat(maker, seat, ports.next(), notes, receiving, logs)?;
+        add_seat(maker, seat, inlets.next(), notes, receiving, logs)?;
     }
     Ok(())
 }
 
-/// Adds the receiver at a port, if there is one, with the door of a seat; otherwise closes the seat unused.
+/// Adds the receiver of an inlet, if there is one, with the door of a seat; otherwise closes the seat unused.
 fn add_seat<'x, B: Set, R: RelayRuntime>(
     maker: &JobMaker<'x, B, R>,
     seat: DoorSeat<B>,
-    port: Option<BoundPort>,
+    inlet: Option<Inlet>,
     notes: &Arc<ReceiverNotes>,
     receiving: &mut Receiving<ReceiverJob<'x, B, R>>,
     logs: &mut Vec<ReceiverLog>,
@@ -66,14 +65,14 @@ fn add_seat<'x, B: Set, R: RelayRuntime>(
     ensures { IfErr result (λ fault. is_start_fault fault ≡ true) }
 {
     let receiver = receiving.jobs.len();
-    let Some(port) = port else {
+    let Some(inlet) = inlet else {
         return Ok(add_unused(maker, seat, &mut receiving.unused)?);
     };
     if receiver >= MOST_RECEIVERS {
-        drop(port);
+        drop(inlet);
         return Ok(add_unused(maker, seat, &mut receiving.unused)?);
     }
-    match noted_inlet(maker, port, receiver, notes, logs, &mut receiving.controls) {
+    match noted_inlet(maker, inlet, receiver, notes, logs, &mut receiving.controls) {
         Ok(inlet) => {
             let job = receiver_job(maker, inlet, receiver, seat);
             Ok(add(&mut receiving.jobs, job)?)
@@ -95,10 +94,10 @@ fn add_unused<'x, B: Set, R: RelayRuntime>(
     add(unused, door.close())
 }
 
-/// What receives at a port, and adds where its events are noted, and what closes and wakes its receiver.
+/// An inlet whose events are noted, with what closes and wakes its receiver.
 fn noted_inlet<B: Set, R: RelayRuntime>(
     maker: &JobMaker<'_, B, R>,
-    port: BoundPort,
+    inlet: Inlet,
     receiver: usize,
     notes: &Arc<ReceiverNotes>,
     logs: &mut Vec<ReceiverLog>,
@@ -106,10 +105,9 @@ fn noted_inlet<B: Set, R: RelayRuntime>(
 ) -> Result<Inlet, RelayFault>
     ensures { IfErr result (λ fault. is_start_fault fault ≡ true) }
 {
-    let mut inlet = Inlet::new(maker.rt, maker.alloc, port)?;
+    let mut inlet = inlet;
     inlet.set_idle(maker.relay.shape.idle_seconds);
-    let handed = maker.relay.streams.get(receiver);
-    match add_noted(&mut inlet, handed, notes, logs, controls) {
+    match add_noted(&mut inlet, notes, logs, controls) {
         Ok(()) => Ok(inlet),
         Err(_) => {
             drop(inlet);
@@ -118,20 +116,15 @@ fn noted_inlet<B: Set, R: RelayRuntime>(
     }
 }
 
-/// Adds where the events of an inlet are noted, and what closes and wakes its receiver. Its connections are handed over here.
+/// Adds where the events of an inlet are noted, and what closes and wakes its receiver.
 fn add_noted(
     inlet: &mut Inlet,
-    handed: Option<&Arc<HandedStreams>>,
     notes: &Arc<ReceiverNotes>,
     logs: &mut Vec<ReceiverLog>,
     controls: &mut Vec<Arc<ReceiverControl>>,
 ) -> Result<(), NoMemory> {
     add(logs, inlet.set_notes(notes)?)?;
-    add(controls, inlet.control()?)?;
-    match handed {
-        Some(handed) => inlet.set_handed(handed),
-        None => Ok(()),
-    }
+    add(controls, inlet.control()?)
 }
 
 /// The receiver of this number, with its inlet and the door of its seat.
@@ -156,6 +149,7 @@ fn receiver_job<'x, B: Set, R: RelayRuntime>(
         door,
         share,
         orders: &relay.orders,
+        handed: relay.streams.get(receiver),
         is_recorded: relay.shape.is_recorded,
         began: relay.began,
     }

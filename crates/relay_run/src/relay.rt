@@ -7,9 +7,11 @@ use crate::dest_slots::DestSlots;
 use crate::end_orders::EndOrders;
 use crate::gone_dests::GoneDests;
 use crate::inherited::Inherited;
-use crate::listeners::{BoundPort, FirstPorts, Ports};
-use crate::sender_setup::{alarms_of, watches_of};
+use crate::listeners::FirstPorts;
+use crate::receiver_job::Inlet;
+use crate::run_parts::RunParts;
 use crate::shape::Shape;
+use crate::shared_parts::SharedParts;
 use crate::start::{Process, Start};
 use finished_run::{FinishedRun, ThreadLogs};
 use locked_queues::{
@@ -19,11 +21,10 @@ use mio_loops::Readiness;
 use receivers::HandedStreams;
 use relay_base::{LARGEST_MESSAGE, LARGEST_QUEUE_SIZE, MOST_DESTINATIONS};
 use relay_files::{RelayFault, RunConfiguration};
-use relay_watchers::{LateNews, ReceiverLog, StatusServer};
+use relay_watchers::{LateNews, LogEnd, StatusServer, WatcherPlaces};
 use run_state::{DestSources, RunState};
 use senders::WakeGate;
 use std::alloc::Global;
-use std::net::Net;
 use std::sync::Arc;
 use std::time::Instant;
 
@@ -58,33 +59,24 @@ pub(crate) struct Relay<B: Set> {
     ghost readers: { (1 ≤ shape.receivers) × (shape.receivers ≤ 8) },
 }
 
-/// An open relay: what its threads borrow, what each of them is given, and the ports of the first one.
+/// An open relay: what its threads borrow, what each of them is given, the places of the log and of the status server, and the ports
+/// of the first thread.
 #[derive(Drop)]
 pub(crate) struct OpenRelay<B: Set, L> {
     pub(crate) relay: Relay<B>,
-    pub(crate) parts: Parts<B, L>,
+    pub(crate) parts: Parts<B>,
+    pub(crate) watchers: WatcherPlaces<L>,
     pub(crate) ports: FirstPorts,
 }
 
-/// What the threads of a run are given, each its part: the seats at the queues, the ports of receivers, what each sender
-/// waits with, and what that to destinations that are gone does, and what those get that watch the others.
+/// What the threads of a run are given, each its part: the seats at the queues, what receives at each port, what each sender
+/// waits with, and what that to destinations that are gone does.
 #[derive(Drop)]
-pub(crate) struct Parts<B: Set, L> {
+pub(crate) struct Parts<B: Set> {
     pub(crate) seats: Seats<B>,
-    pub(crate) receivers: Vec<BoundPort>,
+    pub(crate) inlets: Vec<Inlet>,
     pub(crate) watches: Vec<Readiness>,
     pub(crate) gone_watch: Option<Readiness>,
-    pub(crate) watching: Watching<L>,
-}
-
-/// What those get that watch the other threads: the output of the log, if there is to be one, with its first lines, and what it
-/// has reported of receivers; and the status server, if there is one.
-#[derive(Drop)]
-pub(crate) struct Watching<L> {
-    pub(crate) log: Option<L>,
-    pub(crate) news: String,
-    pub(crate) logged: Vec<ReceiverLog>,
-    pub(crate) status: Option<StatusServer>,
 }
 
 /// The seats of doors and of outlets.
@@ -94,35 +86,34 @@ pub(crate) struct Seats<B: Set> {
     pub(crate) outlets: Vec<OutletSeat<B>>,
 }
 
-/// What a relay has beside its queues: the gate that wakes the senders, what its threads share, what each sender waits with,
-/// and what that to destinations that are gone does.
+/// Why a relay cannot be opened, and all that it was to begin with but for the totals of its queues.
 #[derive(Drop)]
-struct SharedParts {
-    gate: WakeGate,
-    state: RunState,
-    gone_gate: WakeGate,
-    gone_watch: Option<Readiness>,
-    watches: Vec<Readiness>,
-}
-
-/// Why a relay cannot be opened, and what ended runs left.
-#[derive(Drop)]
-pub(crate) struct RefusedStart {
+pub(crate) struct RefusedStart<L> {
     pub(crate) fault: RelayFault,
+    pub(crate) configuration: RunConfiguration,
+    pub(crate) shape: Shape,
+    pub(crate) parts: RunParts,
+    pub(crate) first: FirstPorts,
+    pub(crate) watchers: (Option<L>, Option<StatusServer>),
     pub(crate) inherited: Inherited,
+    ghost dests: { (shape.dests ≡ length configuration.settings.routing.destinations)
+        × (1 ≤ shape.dests) × (shape.dests ≤ 64) },
+    ghost size: { (1 ≤ shape.size) × (shape.size ≤ 1000000) },
+    ghost limit: { (1 ≤ shape.limit) × (shape.limit ≤ 10000) },
+    ghost receivers: { (1 ≤ shape.receivers) × (shape.receivers ≤ 8) },
+    ghost senders: { (1 ≤ shape.senders) × (shape.senders ≤ 8) },
 }
 
 impl<B: Set> Relay<B> {
-    /// Opens a relay, whose log goes to this output, if it has one. Refuses a fault of the start, and gives back what ended
-    /// runs left.
-    pub(crate) fn open<R: Net, L: Drop>(
-        rt: &R,
+    /// Opens a relay, whose log goes to this output, if it has one. Refuses a fault of the start, and gives back what it
+    /// was to begin with.
+    pub(crate) fn open<L: Drop>(
         alloc: Global,
         start: Start,
         log: Option<L>,
         process: &Process<'_>,
         is_first: bool,
-    ) -> Result<OpenRelay<B, L>, RefusedStart>
+    ) -> Result<OpenRelay<B, L>, RefusedStart<L>>
         requires table { start.blank ≡ B.table }
         requires name { NAME ≡ B.name }
         requires dests { start.shape.dests ≡ B.dests }
@@ -134,42 +125,35 @@ impl<B: Set> Relay<B> {
         let Start {
             configuration,
             shape,
-            ports,
+            parts,
+            first,
+            status,
             blank,
             inherited,
         } = start;
         let (dests, size) = (shape.dests, shape.size);
         let (receivers, senders) = (shape.receivers, shape.senders);
-        let shared = match shared_of(rt, alloc, shape, inherited.gone.are_none()) {
-            Ok(shared) => shared,
-            Err(fault) => {
-                drop(configuration);
-                drop((ports, blank));
-                drop(log);
-                return Err(RefusedStart { fault, inherited });
-            }
-        };
         match Queues::<B>::new(alloc, blank, NAME, dests, size, receivers, senders) {
             Ok(opened) => Ok(open_relay(
                 configuration,
                 shape,
                 opened,
-                shared,
+                parts,
                 inherited,
-                ports,
-                log,
+                first,
+                (log, status),
                 process,
                 is_first,
             )),
-            Err(_) => {
-                drop(configuration);
-                drop((ports, shared));
-                drop(log);
-                Err(RefusedStart {
-                    fault: RelayFault::NoMemory,
-                    inherited,
-                })
-            }
+            Err(_) => Err(RefusedStart {
+                fault: RelayFault::NoMemory,
+                configuration,
+                shape,
+                parts,
+                first,
+                watchers: (log, status),
+                inherited,
+            }),
         }
     }
 
@@ -213,10 +197,10 @@ fn open_relay<B: Set, L: Drop>(
     configuration: RunConfiguration,
     shape: Shape,
     opened: Opened<B>,
-    shared: SharedParts,
+    parts: RunParts,
     inherited: Inherited,
-    ports: Ports,
-    log: Option<L>,
+    first: FirstPorts,
+    watchers: (Option<L>, Option<StatusServer>),
     process: &Process<'_>,
     is_first: bool,
 ) -> OpenRelay<B, L>
@@ -231,6 +215,7 @@ fn open_relay<B: Set, L: Drop>(
         doors,
         outlets,
     } = opened;
+    let RunParts { inlets, shared } = parts;
     let SharedParts {
         gate,
         state,
@@ -246,11 +231,21 @@ fn open_relay<B: Set, L: Drop>(
         logged,
         news,
     } = inherited;
-    let Ports {
-        receivers,
-        first,
-        status,
-    } = ports;
+    for streams in &streams {
+        streams.shut();
+    }
+    let (output, status) = watchers;
+    let log = match output {
+        Some(output) => Some(LogEnd {
+            output,
+            receivers: logged,
+            news,
+        }),
+        None => {
+            drop((logged, news));
+            None
+        }
+    };
     OpenRelay {
         relay: Relay {
             configuration,
@@ -270,58 +265,11 @@ fn open_relay<B: Set, L: Drop>(
         },
         parts: Parts {
             seats: Seats { doors, outlets },
-            receivers,
+            inlets,
             watches,
             gone_watch,
-            watching: Watching {
-                log,
-                news,
-                logged,
-                status,
-            },
         },
+        watchers: WatcherPlaces::new(log, status),
         ports: first,
     }
-}
-
-/// The gate that wakes the senders of a run of this shape, what its threads share, the readiness of each sender, and that of
-/// the sender to destinations that are gone, if there are such.
-fn shared_of(
-    rt: &impl Net,
-    alloc: Global,
-    shape: Shape,
-    are_none_gone: bool,
-) -> Result<SharedParts, RelayFault>
-    ensures { IfErr result (λ fault. is_start_fault fault ≡ true) }
-{
-    let watches = watches_of(rt, alloc, shape.senders)?;
-    let alarms = alarms_of(alloc, watches.as_slice())?;
-    let (gone_watch, gone_gate) = gone_watch_of(rt, alloc, are_none_gone)?;
-    let state = RunState::new(
-        alloc,
-        shape.dests,
-        shape.line_receivers,
-        shape.drain_seconds,
-        shape.is_spooled,
-    )?;
-    Ok(SharedParts {
-        gate: WakeGate::new(alarms),
-        state,
-        gone_gate,
-        gone_watch,
-        watches,
-    })
-}
-
-/// What the sender to destinations that are gone waits with, and the gate that wakes it; none if there are none.
-fn gone_watch_of(
-    rt: &impl Net,
-    alloc: Global,
-    are_none: bool,
-) -> Result<(Option<Readiness>, WakeGate), RelayFault>
-    ensures { IfErr result (λ fault. is_start_fault fault ≡ true) }
-{
-    let mut watches = watches_of(rt, alloc, usize::from(!are_none))?;
-    let alarms = alarms_of(alloc, watches.as_slice())?;
-    Ok((watches.pop(), WakeGate::new(alarms)))
 }

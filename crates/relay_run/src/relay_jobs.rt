@@ -7,17 +7,18 @@ use crate::parting_job::PartingJob;
 use crate::parting_setup::parting_job;
 use crate::receiver_job::ReceiverJob;
 use crate::receiver_setup::receivers_of;
-use crate::relay::{Parts, Relay, Seats, Watching};
+use crate::relay::{Parts, Relay, Seats};
 use crate::runtime::RelayRuntime;
 use crate::sender_job::SenderJob;
 use crate::sender_setup::senders_of;
 use crate::thread_jobs::{Jobs, all_jobs};
+use crate::thread_records::LeftRoom;
 use locked_queues::Set;
 use relay_base::NoMemory;
 use relay_files::RelayFault;
-use relay_watchers::{LogJob, ReceiverLog, StatusJob, Watched, watchers_of};
+use relay_watchers::{LogJob, ReceiverLog, StatusJob, Watched, WatcherPlaces, watchers_of};
+use senders::HostThreads;
 use std::alloc::Global;
-use std::io::Write;
 
 /// What makes the jobs of a relay's threads.
 #[derive(Drop)]
@@ -25,22 +26,25 @@ pub(crate) struct JobMaker<'x, B: Set, R> {
     pub(crate) rt: &'x R,
     pub(crate) alloc: Global,
     pub(crate) relay: &'x Relay<B>,
+    pub(crate) hosts: &'x HostThreads,
 }
 
 /// The jobs of the threads of a relay, of which each has its part. Refuses a fault of the start: all jobs are made
 /// before the first fault among them is answered.
-pub(crate) fn jobs_of<'x, B: Set, R: RelayRuntime, L: Write + Drop>(
+pub(crate) fn jobs_of<'x, B: Set, R: RelayRuntime, L: Drop>(
     rt: &'x R,
     alloc: Global,
     relay: &'x Relay<B>,
-    parts: Parts<B, L>,
+    hosts: &'x HostThreads,
+    parts: Parts<B>,
+    watchers: &'x WatcherPlaces<L>,
 ) -> Result<
     Jobs<
         ReceiverJob<'x, B, R>,
         SenderJob<'x, B, R>,
         PartingJob<'x, R>,
         LogJob<'x, B, L>,
-        StatusJob<'x, B>,
+        StatusJob<'x, B, L>,
     >,
     RelayFault,
 >
@@ -48,42 +52,34 @@ pub(crate) fn jobs_of<'x, B: Set, R: RelayRuntime, L: Write + Drop>(
 {
     let Parts {
         seats,
-        receivers,
+        inlets,
         watches,
         gone_watch,
-        watching,
     } = parts;
     let Seats { doors, outlets } = seats;
-    let maker = JobMaker { rt, alloc, relay };
+    let room = LeftRoom::new(alloc, doors.len(), outlets.len());
+    let dests = relay.configuration.settings().destinations();
+    hosts.end_others(rt, dests, relay.gone.dests.as_slice());
+    let maker = JobMaker {
+        rt,
+        alloc,
+        relay,
+        hosts,
+    };
     let mut logs = Vec::new(alloc);
-    let receiving = receivers_of(&maker, doors, receivers, &mut logs);
+    let receiving = receivers_of(&maker, doors, inlets, &mut logs);
     let sending = senders_of(&maker, outlets, watches);
     let parting = parting_job(&maker, gone_watch);
-    let watching = watching_of(&maker, logs, watching);
-    all_jobs(receiving, sending, parting, watching)
-}
-
-/// What an earlier log has reported of each receiver is not reported again.
-fn resume_logs(logs: &mut Vec<ReceiverLog>, earlier: Vec<ReceiverLog>) {
-    for (log, earlier) in logs.as_mut_slice().iter_mut().zip(earlier) {
-        log.resume(earlier);
-    }
+    let watching = watching_of(&maker, logs, watchers);
+    all_jobs(receiving, sending, parting, watching, room)
 }
 
 /// The jobs of the log and of the status server, if there is an output and a server for them.
-fn watching_of<'x, B: Set, R, L: Write + Drop>(
+fn watching_of<'x, B: Set, R, L: Drop>(
     maker: &JobMaker<'x, B, R>,
     logs: Vec<ReceiverLog>,
-    watching: Watching<L>,
-) -> Result<(Option<LogJob<'x, B, L>>, Option<StatusJob<'x, B>>), NoMemory> {
-    let Watching {
-        log,
-        news,
-        logged,
-        status,
-    } = watching;
-    let mut logs = logs;
-    resume_logs(&mut logs, logged);
+    places: &'x WatcherPlaces<L>,
+) -> Result<(Option<LogJob<'x, B, L>>, Option<StatusJob<'x, B, L>>), NoMemory> {
     let relay = maker.relay;
     let watched = Watched {
         queues: &relay.queues,
@@ -95,5 +91,5 @@ fn watching_of<'x, B: Set, R, L: Write + Drop>(
         configuration: relay.configuration.sum(),
         began: relay.began,
     };
-    watchers_of(maker.alloc, &watched, logs, news, log, status)
+    watchers_of(maker.alloc, &watched, logs, places)
 }

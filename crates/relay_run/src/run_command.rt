@@ -19,32 +19,33 @@ ghost use Rattle.relay_run.specs.Running.{RunEnds, RelayFails, ClosesWith, EndsW
 ghost use Rattle.relay_run.specs.RunEnd.{EndsARun, IfStopped, IfFollowed};
 
 use crate::admin::{FirstState, RunBefore};
+use crate::another_try::BetweenRuns;
 use crate::closing::write_end;
-use crate::ended_run::{EndedRun, ended_of};
+use crate::ended_run::{EndedRecord, EndedRun, ended_of};
 use crate::inherited::Inherited;
 use crate::listeners::FirstPorts;
-use crate::next_start::{places_after, start_after};
+use crate::next_start::{NewPlaces, places_after, start_after};
 use crate::options::RunOptions;
 use crate::prepared_run::{NextPlan, PreparedRun};
-use crate::relay::{NAME, OpenRelay, Parts, Relay};
+use crate::relay::{NAME, OpenRelay, RefusedStart, Relay};
 use crate::reload_source::ReloadSource;
 use crate::running::run_until_ended;
 use crate::runtime::RelayRuntime;
+use crate::shape::shape_of;
 use crate::spool_folder::SpoolFolder;
 use crate::spool_left::spool_slots;
 use crate::start::{Process, Start};
-use crate::thread_records::{Records, RunLeft};
+use crate::thread_records::Records;
 use finished_run::Recorder;
-use locked_queues::Set;
+use locked_queues::{EndRoom, Set};
 use mio_loops::{SystemTimes, TimeSource};
-use relay_base::NoMemory;
 use relay_files::{RelayFault, RunConfiguration, Source, Sources, Status};
-use relay_watchers::{LogEnd, StatusServer};
+use relay_watchers::{ReceiverLog, WatcherPlaces};
+use senders::HostThreads;
 use std::alloc::Global;
 use std::io::Write;
 use std::marker::Brand;
 use std::mem;
-use std::rt::Clock;
 use std::time::Instant;
 
 /// Runs a relay until its admin port takes `stop`, and settles.
@@ -115,9 +116,11 @@ pub fn run<
         fault)) }
 {
     let configuration = RunConfiguration::read(alloc, sources)?;
+    let hosts = HostThreads::new(alloc);
     let process = Process {
         options,
         folder: spool,
+        hosts: &hosts,
         is_recorded: recorder.is_some(),
         began: Instant::now(rt).ok(),
     };
@@ -229,49 +232,247 @@ fn run_relay<
     let OpenRelay {
         relay,
         parts,
+        watchers,
         ports,
-    } = match Relay::<B>::open(rt, alloc, start, log, process, is_first) {
+    } = match Relay::<B>::open(alloc, start, log, process, is_first) {
         Ok(opened) => opened,
-        Err(refused) => {
-            drop(before);
-            spool_inherited(rt, alloc, refused.inherited, process);
-            return Err(refused.fault);
-        }
+        Err(refused) => return open_again(rt, alloc, refused, before, process, number),
     };
     let mut state = FirstState {
         ports,
         before,
         next: None,
-        log: None,
-        server: None,
     };
     let left = run_until_ended(
-        rt, alloc, &relay, parts, &*files, &*process, &mut state, output, recorder,
+        rt, alloc, &relay, parts, &watchers, &*files, &*process, &mut state, output, recorder,
     );
     let FirstState {
         ports,
         before,
         next,
-        log,
-        server,
     } = state;
-    drop(before);
-    let left = match left {
-        Ok(records) => RunLeft {
-            records,
-            log,
-            server,
-        },
+    let records = match left {
+        Ok(records) => records,
         Err(fault) => {
-            drop(ports);
-            drop((log, server));
-            spool_failed(rt, alloc, relay, next, process, number);
-            return Err(fault);
+            return begin_again(
+                rt, alloc, relay, watchers, next, before, ports, process, number, fault, is_first,
+            );
         }
     };
+    drop(before);
     match next {
-        Some(next) => follow(rt, alloc, relay, left, next, ports, process, number),
-        None => stop(alloc, relay, left, ports, output, recorder),
+        Some(next) => follow(
+            rt, alloc, relay, records, watchers, next, ports, process, number,
+        ),
+        None => stop(alloc, relay, records, watchers, ports, output, recorder),
+    }
+}
+
+/// Has a relay that could not be opened opened again, if it is one of a reload; what ended runs left is written to files, if there is
+/// a folder, if it is stopped before.
+fn open_again<R: RelayRuntime, L: Drop>(
+    rt: &R,
+    alloc: Global,
+    refused: RefusedStart<L>,
+    before: RunBefore,
+    process: &Process<'_>,
+    number: u64,
+) -> Result<RunEnd<L>, RelayFault>
+    ensures followed { IfOk result (λ end. IfFollowed end (λ following.
+        (is_none following.before.waiting ≡ false) × (is_none before.waiting ≡ false))) }
+    ensures never_stopped { IfOk result (λ end. IfStopped end (λ _. ⊥)) }
+    ensures err { IfErr result (λ fault. fault ≡ refused.fault) }
+{
+    let RefusedStart {
+        fault,
+        configuration,
+        shape,
+        parts,
+        mut first,
+        watchers,
+        inherited,
+    } = refused;
+    let RunBefore { waiting, record } = before;
+    let (log, status) = watchers;
+    if waiting.is_none() {
+        drop((configuration, parts, first));
+        drop((log, status, record));
+        drop(inherited);
+        return Err(fault);
+    }
+    let mut between = BetweenRuns {
+        rt,
+        alloc,
+        ports: &mut first,
+        process,
+    };
+    match between.blank() {
+        Some(blank) => Ok(RunEnd::Followed(NextRun {
+            start: Start {
+                configuration,
+                shape,
+                parts,
+                first,
+                status,
+                blank,
+                inherited,
+            },
+            log,
+            before: RunBefore { waiting, record },
+            number,
+        })),
+        None => {
+            drop((configuration, parts, first));
+            drop((log, status, record));
+            spool_inherited(rt, alloc, inherited, process);
+            Err(fault)
+        }
+    }
+}
+
+/// Has a run begin again whose threads did not begin, if it is one of a reload: with what ended runs left, by the same files. What is
+/// held is written to files, if there is a folder, if it is stopped before, and where a run failed for another reason.
+fn begin_again<B: Set, R: RelayRuntime, L: Drop>(
+    rt: &R,
+    alloc: Global,
+    relay: Relay<B>,
+    watchers: WatcherPlaces<L>,
+    next: Option<PreparedRun<B>>,
+    before: RunBefore,
+    ports: FirstPorts,
+    process: &Process<'_>,
+    number: u64,
+    fault: RelayFault,
+    is_first: bool,
+) -> Result<RunEnd<L>, RelayFault>
+    ensures followed { IfOk result (λ end. IfFollowed end (λ following.
+        (is_none following.before.waiting ≡ false) × (is_first ≡ false))) }
+    ensures never_stopped { IfOk result (λ end. IfStopped end (λ _. ⊥)) }
+    ensures err { IfErr result (λ other. other ≡ fault) }
+{
+    let RunBefore { waiting, record } = before;
+    if is_first || waiting.is_none() || next.is_some() {
+        drop(ports);
+        drop((watchers, record));
+        spool_failed(rt, alloc, relay, next, process, number);
+        return Err(fault);
+    }
+    drop(next);
+    let mut ports = ports;
+    let Some(room) = room_for(rt, alloc, &relay, &mut ports, process) else {
+        drop(ports);
+        drop((watchers, record));
+        spool_failed(rt, alloc, relay, None, process, number);
+        return Err(fault);
+    };
+    let ended = ended_of(alloc, relay, room, number, Records::none(alloc));
+    match start_again(rt, alloc, ended, &watchers, ports, process) {
+        Some((start, log)) => Ok(RunEnd::Followed(NextRun {
+            start,
+            log,
+            before: RunBefore { waiting, record },
+            number,
+        })),
+        None => {
+            drop((watchers, record));
+            Err(fault)
+        }
+    }
+}
+
+/// Room for what a relay leaves, as soon as there is memory; `None` if it is stopped before.
+fn room_for<B: Set, R: RelayRuntime>(
+    rt: &R,
+    alloc: Global,
+    relay: &Relay<B>,
+    ports: &mut FirstPorts,
+    process: &Process<'_>,
+) -> Option<EndRoom<B>> {
+    let mut between = BetweenRuns {
+        rt,
+        alloc,
+        ports,
+        process,
+    };
+    for _ in rt.forever() {
+        if !between.is_another_due() {
+            return None;
+        }
+        if let Ok(room) = relay.queues.end_room(alloc) {
+            return Some(room);
+        }
+    }
+    unreachable!()
+}
+
+/// What a run begins again with that could not begin, and the output of its log; `None` if the relay is stopped before, and then what
+/// is left is written to files, if there is a folder.
+fn start_again<R: RelayRuntime, L: Drop>(
+    rt: &R,
+    alloc: Global,
+    ended: EndedRun,
+    watchers: &WatcherPlaces<L>,
+    ports: FirstPorts,
+    process: &Process<'_>,
+) -> Option<(Start, Option<L>)> {
+    let EndedRun {
+        record,
+        notes,
+        slots,
+        streams,
+        gone,
+    } = ended;
+    let EndedRecord { configuration, .. } = record;
+    let mut first = ports;
+    let shape = shape_of(configuration.settings(), first.kept.len(), process);
+    gone.begin_again();
+    let mut between = BetweenRuns {
+        rt,
+        alloc,
+        ports: &mut first,
+        process,
+    };
+    let parts = between.parts(shape, !gone.are_none());
+    let blank = between.blank();
+    let (output, logged, news) = log_of(alloc, watchers);
+    let inherited = Inherited {
+        notes,
+        slots,
+        streams,
+        gone,
+        logged,
+        news,
+    };
+    match (parts, blank) {
+        (Some(parts), Some(blank)) => {
+            let start = Start {
+                configuration,
+                shape,
+                parts,
+                first,
+                status: watchers.take_server(),
+                blank,
+                inherited,
+            };
+            Some((start, output))
+        }
+        (parts, blank) => {
+            drop((configuration, parts, blank));
+            drop((first, output));
+            spool_inherited(rt, alloc, inherited, process);
+            None
+        }
+    }
+}
+
+/// The output of a log that has ended, if there is one, what it has reported of receivers, and the first lines of the next.
+fn log_of<L: Drop>(
+    alloc: Global,
+    watchers: &WatcherPlaces<L>,
+) -> (Option<L>, Vec<ReceiverLog>, String) {
+    match watchers.take_log() {
+        Some(log) => (Some(log.output), log.receivers, log.news),
+        None => (None, Vec::new(alloc), String::new(alloc)),
     }
 }
 
@@ -279,7 +480,8 @@ fn run_relay<
 fn stop<B: Set, W: Write, L: Drop, K: Recorder>(
     alloc: Global,
     relay: Relay<B>,
-    left: RunLeft<L>,
+    records: Records,
+    watchers: WatcherPlaces<L>,
     ports: FirstPorts,
     output: &mut W,
     recorder: &mut Option<K>,
@@ -290,19 +492,14 @@ fn stop<B: Set, W: Write, L: Drop, K: Recorder>(
         × (status ≡ closing_status settled))) }
     ensures never_followed { IfOk result (λ end. IfFollowed end (λ _. ⊥)) }
     ensures err { IfErr result (λ fault. (settled : Result Settled SettleFault)
-        × ClosesWith (W.contents output.old) (W.contents output.new) settled left.records.fault fault) }
+        × ClosesWith (W.contents output.old) (W.contents output.new) settled records.fault fault) }
 {
     let mut relay = relay;
-    let RunLeft {
-        records,
-        log,
-        server,
-    } = left;
     let (doors, outlets) = (records.doors.as_slice(), records.outlets.as_slice());
     let settled = relay.queues.settle(alloc, doors, outlets);
     let run = relay.finished(&settled, &records.logs);
     let ended = write_end(alloc, &run, records.fault, output, recorder);
-    drop((log, server));
+    drop(watchers);
     // Whoever waits at the admin port for the end of the relay knows of it now.
     drop(ports);
     // Datapoint by datapoint it would take long to give all this back. The process ends, and the system takes it at once.
@@ -321,7 +518,8 @@ fn follow<B: Set, R: RelayRuntime, L: Drop>(
     rt: &R,
     alloc: Global,
     relay: Relay<B>,
-    left: RunLeft<L>,
+    records: Records,
+    watchers: WatcherPlaces<L>,
     next: PreparedRun<B>,
     ports: FirstPorts,
     process: &Process<'_>,
@@ -332,15 +530,15 @@ fn follow<B: Set, R: RelayRuntime, L: Drop>(
     ensures never_stopped { IfOk result (λ end. IfStopped end (λ _. ⊥)) }
     ensures err { IfErr result (λ fault. fault ≡ RelayFault.NoMemory) }
 {
-    let RunLeft {
-        records,
-        log,
-        server,
-    } = left;
-    let PreparedRun { next, room } = next;
+    let PreparedRun {
+        next,
+        room,
+        reserve,
+    } = next;
     let mut ended = ended_of(alloc, relay, room, number, records);
-    match following(rt, alloc, &mut ended, next, ports, log, server, process) {
-        Ok((start, log, waiting)) => Ok(RunEnd::Followed(NextRun {
+    drop(reserve);
+    match following(rt, alloc, &mut ended, next, ports, &watchers, process) {
+        Some((start, log, waiting)) => Ok(RunEnd::Followed(NextRun {
             start,
             log,
             before: RunBefore {
@@ -349,43 +547,64 @@ fn follow<B: Set, R: RelayRuntime, L: Drop>(
             },
             number: number.saturating_add(1),
         })),
-        Err(NoMemory) => {
+        None => {
+            drop(watchers);
             spool_ended(rt, alloc, ended, process);
             Err(RelayFault::NoMemory)
         }
     }
 }
 
-/// What the next run begins with, the output of its log, and the connection that waits to be told of it.
-fn following<R: Clock, L: Drop>(
+/// What the next run begins with, the output of its log, and the connection that waits to be told of it, as soon as there is memory
+/// for its places; `None` if the relay is stopped before.
+fn following<R: RelayRuntime, L: Drop>(
     rt: &R,
     alloc: Global,
     ended: &mut EndedRun,
     next: NextPlan,
     ports: FirstPorts,
-    log: Option<LogEnd<L>>,
-    server: Option<StatusServer>,
+    watchers: &WatcherPlaces<L>,
     process: &Process<'_>,
-) -> Result<(Start, Option<L>, u64), NoMemory> {
-    let (output, logged) = match log {
-        Some(log) => (Some(log.output), log.receivers),
-        None => (None, Vec::new(alloc)),
-    };
-    let mut next = next;
+) -> Option<(Start, Option<L>, u64)> {
     let waiting = next.connection;
+    let mut ports = ports;
+    let Some(places) = places_for(rt, alloc, ended, &next, &mut ports, process) else {
+        drop(next);
+        drop(ports);
+        return None;
+    };
+    let (output, logged, old_news) = log_of(alloc, watchers);
+    drop(old_news);
+    let server = watchers.take_server();
+    let start = start_after(alloc, ended, next, places, ports, server, logged);
+    Some((start, output, waiting))
+}
+
+/// The places of a run that is to follow, as soon as there is memory for them; `None` if the relay is stopped before.
+fn places_for<R: RelayRuntime>(
+    rt: &R,
+    alloc: Global,
+    ended: &EndedRun,
+    next: &NextPlan,
+    ports: &mut FirstPorts,
+    process: &Process<'_>,
+) -> Option<NewPlaces> {
     let millis = SystemTimes::since(rt, process.began).millis();
-    match places_after(alloc, ended, &mut next, process, millis) {
-        Ok(places) => {
-            let start = start_after(alloc, ended, next, places, ports, server, logged, process);
-            Ok((start, output, waiting))
+    for _ in rt.forever() {
+        if let Ok(places) = places_after(alloc, ended, next, process, millis) {
+            return Some(places);
         }
-        Err(fault) => {
-            drop(next);
-            drop((ports, server));
-            drop((output, logged));
-            Err(fault)
+        let mut between = BetweenRuns {
+            rt,
+            alloc,
+            ports: &mut *ports,
+            process,
+        };
+        if !between.is_another_due() {
+            return None;
         }
     }
+    unreachable!()
 }
 
 /// Writes to files what ended runs left to one that could not be opened.
@@ -411,8 +630,14 @@ fn spool_failed<B: Set, R: RelayRuntime>(
     number: u64,
 ) {
     let room = match next {
-        Some(PreparedRun { next, room }) => {
-            drop(next);
+        Some(
+            PreparedRun {
+                next,
+                room,
+                reserve,
+            },
+        ) => {
+            drop((next, reserve));
             Some(room)
         }
         None if relay.is_first => {

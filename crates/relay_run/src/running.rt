@@ -16,6 +16,7 @@ use crate::threads::run_all_threads;
 use finished_run::Recorder;
 use locked_queues::Set;
 use relay_files::RelayFault;
+use relay_watchers::WatcherPlaces;
 use std::alloc::Global;
 use std::io::Write;
 
@@ -33,10 +34,11 @@ pub(crate) fn run_until_ended<
     rt: &'x R,
     alloc: Global,
     relay: &'x Relay<B>,
-    parts: Parts<B, L>,
+    parts: Parts<B>,
+    watchers: &'x WatcherPlaces<L>,
     files: &'x F,
     process: &'x Process<'x>,
-    state: &'x mut FirstState<B, L>,
+    state: &'x mut FirstState<B>,
     output: &mut W,
     recorder: &'x mut Option<K>,
 ) -> Result<Records, RelayFault>
@@ -46,7 +48,7 @@ pub(crate) fn run_until_ended<
     ensures err { IfErr result (FailsBeforeClosing (opening (is_none state.old.before.waiting))
         (W.contents output.old) (W.contents output.new)) }
 {
-    let jobs = match jobs_of(rt, alloc, relay, parts) {
+    let jobs = match jobs_of(rt, alloc, relay, process.hosts, parts, watchers) {
         Ok(jobs) => jobs,
         Err(fault) => return Err(fault),
     };
@@ -59,5 +61,5 @@ pub(crate) fn run_until_ended<
     };
     let ends = run_all_threads(rt, alloc, jobs, relay.state.signals(), &mut work, output);
     drop(work);
-    records_of(alloc, ends)
+    records_of(ends)
 }

@@ -4,8 +4,9 @@ ghost use Rattle.std.specs.Prelude.{◌≡◌, ◌≤◌, true, length, IfErr};
 ghost use Rattle.relay_run.specs.Running.{is_start_fault};
 
 use crate::inherited::Inherited;
-use crate::listeners::{Ports, bind_all};
+use crate::listeners::{FirstPorts, Ports, bind_all};
 use crate::options::RunOptions;
+use crate::run_parts::RunParts;
 use crate::runtime::RelayRuntime;
 use crate::shape::{Shape, shape_of};
 use crate::spool_folder::{SpoolFolder, open_files};
@@ -13,16 +14,20 @@ use conf_text::Settings;
 use locked_queues::BlankTotals;
 use relay_base::NoMemory;
 use relay_files::{RelayFault, RunConfiguration};
+use relay_watchers::StatusServer;
+use senders::HostThreads;
 use std::alloc::Global;
 use std::time::Instant;
 
-/// What a run begins with: its configuration and its numbers, its ports, which are bound, the totals of its queues, and what
-/// ended runs left.
+/// What a run begins with: its configuration and its numbers, what the system gave it, the ports that the first thread keeps, the
+/// status server, if there is one, the totals of its queues, and what ended runs left.
 #[derive(Drop)]
 pub(crate) struct Start {
     pub(crate) configuration: RunConfiguration,
     pub(crate) shape: Shape,
-    pub(crate) ports: Ports,
+    pub(crate) parts: RunParts,
+    pub(crate) first: FirstPorts,
+    pub(crate) status: Option<StatusServer>,
     pub(crate) blank: BlankTotals,
     pub(crate) inherited: Inherited,
     ghost dests: { (shape.dests ≡ length configuration.settings.routing.destinations)
@@ -33,12 +38,13 @@ pub(crate) struct Start {
     ghost senders: { (1 ≤ shape.senders) × (shape.senders ≤ 8) },
 }
 
-/// What all runs of a process have in common: how they run, the folder for what is not sent, if there is one, whether they are
-/// recorded, and since when their milliseconds count.
+/// What all runs of a process have in common: how they run, the folder for what is not sent, if there is one, the threads that
+/// look hosts up, whether they are recorded, and since when their milliseconds count.
 #[derive(Clone, Copy)]
 pub(crate) struct Process<'a> {
     pub(crate) options: RunOptions,
     pub(crate) folder: Option<SpoolFolder<'a>>,
+    pub(crate) hosts: &'a HostThreads,
     pub(crate) is_recorded: bool,
     pub(crate) began: Option<Instant>,
 }
@@ -72,18 +78,33 @@ impl Start {
                 return Err(fault);
             }
         };
-        let shape = shape_of(settings, ports.receivers.len(), process);
+        let Ports {
+            receivers,
+            first,
+            status,
+        } = ports;
+        let shape = shape_of(settings, receivers.len(), process);
+        let parts = match RunParts::new(rt, alloc, receivers, shape, false) {
+            Ok(parts) => parts,
+            Err(fault) => {
+                drop(configuration);
+                drop((first, status));
+                return Err(fault);
+            }
+        };
         match begin_with(rt, alloc, settings, &shape, process) {
             Ok((inherited, blank)) => Ok(Start {
                 configuration,
                 shape,
-                ports,
+                parts,
+                first,
+                status,
                 blank,
                 inherited,
             }),
             Err(_) => {
                 drop(configuration);
-                drop(ports);
+                drop((parts, first, status));
                 Err(RelayFault::NoMemory)
             }
         }

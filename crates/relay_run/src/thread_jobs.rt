@@ -3,6 +3,7 @@
 ghost use Rattle.std.specs.Prelude.{◌≡◌, true, IfErr};
 ghost use Rattle.relay_run.specs.Running.{is_start_fault};
 
+use crate::thread_records::LeftRoom;
 use locked_queues::DoorRecord;
 use receivers::ReceiverControl;
 use relay_base::NoMemory;
@@ -11,7 +12,7 @@ use std::alloc::Global;
 use std::sync::Arc;
 
 /// What the threads of a run work on: its receivers and its senders, the sender to destinations that are gone, the log and
-/// the status server, if any.
+/// the status server, if any; and room for what the receivers and the senders leave.
 #[derive(Drop)]
 pub(crate) struct Jobs<J, K, G, L, V> {
     pub(crate) receiving: Receiving<J>,
@@ -19,6 +20,7 @@ pub(crate) struct Jobs<J, K, G, L, V> {
     pub(crate) parting: Option<G>,
     pub(crate) logging: Option<L>,
     pub(crate) serving: Option<V>,
+    pub(crate) room: LeftRoom,
 }
 
 /// Receivers, the records of seats that are unused, and what closes and wakes the receivers.
@@ -47,6 +49,7 @@ pub(crate) fn all_jobs<J: Drop, K: Drop, G: Drop, L: Drop, V: Drop>(
     sending: Result<Vec<K>, RelayFault>,
     parting: Result<Option<G>, RelayFault>,
     watching: Result<(Option<L>, Option<V>), NoMemory>,
+    room: Result<LeftRoom, NoMemory>,
 ) -> Result<Jobs<J, K, G, L, V>, RelayFault>
     requires receiving { IfErr receiving (λ fault. is_start_fault fault ≡ true) }
     requires sending { IfErr sending (λ fault. is_start_fault fault ≡ true) }
@@ -57,11 +60,13 @@ pub(crate) fn all_jobs<J: Drop, K: Drop, G: Drop, L: Drop, V: Drop>(
     let sending = sending?;
     let parting = parting?;
     let (logging, serving) = watching?;
+    let room = room?;
     Ok(Jobs {
         receiving,
         sending,
         parting,
         logging,
         serving,
+        room,
     })
 }

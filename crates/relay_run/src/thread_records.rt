@@ -5,11 +5,11 @@ ghost use Rattle.relay_run.specs.Running.{thread_fault};
 
 use crate::ending::ThreadEnds;
 use crate::thread_end::{ThreadEnd, thread_fault};
-use finished_run::ThreadLogs;
+use finished_run::{FedLog, ThreadLogs};
 use locked_queues::{DoorRecord, OutletRecord};
+use mio_loops::WriteLog;
 use relay_base::{NoMemory, add};
 use relay_files::RelayFault;
-use relay_watchers::{LogEnd, StatusServer};
 use std::alloc::Global;
 
 /// What doors and outlets recorded, what receivers and senders logged, and the fault of a thread, if one had a fault.
@@ -36,16 +36,47 @@ impl Records {
     }
 }
 
-/// What the threads of a run left: what they recorded, the log, if there is one, and the status server.
+/// Room for what the threads of a run leave, so that keeping it takes no memory: how they end, and then their records.
 #[derive(Drop)]
-pub(crate) struct RunLeft<O> {
-    pub(crate) records: Records,
-    pub(crate) log: Option<LogEnd<O>>,
-    pub(crate) server: Option<StatusServer>,
+pub(crate) struct LeftRoom {
+    pub(crate) receivers: Vec<ThreadEnd<DoorRecord, FedLog>>,
+    pub(crate) senders: Vec<ThreadEnd<OutletRecord, Vec<WriteLog>>>,
+    pub(crate) records: RecordsRoom,
+}
+
+/// Room for what threads recorded and logged.
+#[derive(Drop)]
+pub(crate) struct RecordsRoom {
+    doors: Vec<DoorRecord>,
+    outlets: Vec<OutletRecord>,
+    logs: ThreadLogs,
+}
+
+impl LeftRoom {
+    /// Room for so many receivers and senders, and a seat that is unused. Refuses if out of memory.
+    pub(crate) fn new(
+        alloc: Global,
+        receivers: usize,
+        senders: usize,
+    ) -> Result<LeftRoom, NoMemory> {
+        let doors = receivers.saturating_add(1);
+        Ok(LeftRoom {
+            receivers: Vec::with_capacity(alloc, receivers)?,
+            senders: Vec::with_capacity(alloc, senders)?,
+            records: RecordsRoom {
+                doors: Vec::with_capacity(alloc, doors)?,
+                outlets: Vec::with_capacity(alloc, senders)?,
+                logs: ThreadLogs {
+                    fed: Vec::with_capacity(alloc, receivers)?,
+                    written: Vec::with_capacity(alloc, senders)?,
+                },
+            },
+        })
+    }
 }
 
 /// What the threads recorded, with the records of unused seats, and the first fault of a thread.
-pub(crate) fn records_of(alloc: Global, ends: ThreadEnds) -> Result<Records, RelayFault>
+pub(crate) fn records_of(ends: ThreadEnds) -> Result<Records, RelayFault>
     ensures fault { IfOk result (λ records. records.fault
         ≡ thread_fault (map (λ end. end.fault) ends.receivers.items)
         (map (λ end. end.fault) ends.senders.items)) }
@@ -56,20 +87,25 @@ pub(crate) fn records_of(alloc: Global, ends: ThreadEnds) -> Result<Records, Rel
         receivers,
         senders,
         unused,
+        room,
         served,
     } = ends;
     served?;
     let fault = thread_fault(receivers.as_slice(), senders.as_slice());
-    let mut doors = unused;
-    let mut fed = Vec::new(alloc);
-    add_records(&mut doors, &mut fed, receivers)?;
-    let mut outlets = Vec::new(alloc);
-    let mut written = Vec::new(alloc);
-    add_records(&mut outlets, &mut written, senders)?;
+    let RecordsRoom {
+        mut doors,
+        mut outlets,
+        mut logs,
+    } = room;
+    for record in unused {
+        add(&mut doors, record)?;
+    }
+    add_records(&mut doors, &mut logs.fed, receivers)?;
+    add_records(&mut outlets, &mut logs.written, senders)?;
     Ok(Records {
         doors,
         outlets,
-        logs: ThreadLogs { fed, written },
+        logs,
         fault,
     })
 }

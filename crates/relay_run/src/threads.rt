@@ -8,6 +8,7 @@ use crate::ending::{ThreadEnds, end_threads};
 use crate::first_work::{FirstWork, serve_if};
 use crate::thread_end::ThreadEnd;
 use crate::thread_jobs::{Jobs, Receiving};
+use crate::thread_records::LeftRoom;
 use finished_run::FedLog;
 use locked_queues::{DoorRecord, OutletRecord};
 use mio_loops::WriteLog;
@@ -26,21 +27,22 @@ struct SignalLink<'s> {
     signals: &'s Signals,
 }
 
-/// The handles of threads that were started, and whether all were; the records of unused seats, and what closes and wakes the
-/// receivers. The log's thread leaves an `O`, and the status server's an `S`.
+/// The handles of threads that were started, and whether all were; the records of unused seats, what closes and wakes the
+/// receivers, and room for what these and the senders leave.
 #[derive(Drop)]
-pub(crate) struct StartedThreads<O, S> {
+pub(crate) struct StartedThreads {
     pub(crate) receivers: Vec<JoinHandle<ThreadEnd<DoorRecord, FedLog>>>,
     pub(crate) senders: Vec<JoinHandle<ThreadEnd<OutletRecord, Vec<WriteLog>>>>,
     pub(crate) parting: Vec<JoinHandle<()>>,
-    pub(crate) logs: Vec<JoinHandle<O>>,
-    pub(crate) servers: Vec<JoinHandle<S>>,
+    pub(crate) logs: Vec<JoinHandle<()>>,
+    pub(crate) servers: Vec<JoinHandle<()>>,
     pub(crate) unused: Vec<DoorRecord>,
     pub(crate) controls: Vec<Arc<ReceiverControl>>,
+    pub(crate) room: LeftRoom,
     are_all: bool,
 }
 
-impl<O, S> StartedThreads<O, S> {
+impl StartedThreads {
     /// Waits until all receivers and senders have begun. Returns whether they have: false if a thread could not be started, or
     /// has not the memory to begin.
     fn wait_for_begun<R: Wait + Clock>(&self, rt: &R, signals: &Signals) -> bool {
@@ -63,11 +65,9 @@ pub(crate) fn run_all_threads<
     J: ThreadWork<R, ThreadEnd<DoorRecord, FedLog>> + Send + Drop,
     K: ThreadWork<R, ThreadEnd<OutletRecord, Vec<WriteLog>>> + Send + Drop,
     G: ThreadWork<R, ()> + Send + Drop,
-    L: ThreadWork<R, O> + Send + Drop,
-    V: ThreadWork<R, S> + Send + Drop,
-    O: Send + Drop,
-    S: Send + Drop,
-    A: FirstWork<R, O, S>,
+    L: ThreadWork<R, ()> + Send + Drop,
+    V: ThreadWork<R, ()> + Send + Drop,
+    A: FirstWork<R>,
     W: Write,
 >(
     rt: &R,
@@ -98,11 +98,9 @@ fn run_threads<
     J: ThreadWork<R, ThreadEnd<DoorRecord, FedLog>> + Send + Drop,
     K: ThreadWork<R, ThreadEnd<OutletRecord, Vec<WriteLog>>> + Send + Drop,
     G: ThreadWork<R, ()> + Send + Drop,
-    L: ThreadWork<R, O> + Send + Drop,
-    V: ThreadWork<R, S> + Send + Drop,
-    O: Send + Drop,
-    S: Send + Drop,
-    A: FirstWork<R, O, S>,
+    L: ThreadWork<R, ()> + Send + Drop,
+    V: ThreadWork<R, ()> + Send + Drop,
+    A: FirstWork<R>,
     W: Write,
 >(
     rt: &R,
@@ -121,7 +119,7 @@ fn run_threads<
         rt,
         move |scope| -> (ThreadEnds, WithOutput<'_, '_, A, W>)
             requires { IsSync R.row × IsSend J.row × IsSend K.row × IsSend G.row × IsSend L.row
-                × IsSend V.row × IsSend O.row × IsSend S.row }
+                × IsSend V.row }
             ensures same { result.1.output.ghost_name ≡ first.entry.output.ghost_name }
             ensures served { Served (opening (A.is_first first.entry.work.now))
                 (W.contents first.entry.output.now) (W.contents result.1.output.now) result.0.served }
@@ -141,11 +139,9 @@ fn run_in_scope<
     J: ThreadWork<R, ThreadEnd<DoorRecord, FedLog>> + Send + Drop + 's,
     K: ThreadWork<R, ThreadEnd<OutletRecord, Vec<WriteLog>>> + Send + Drop + 's,
     G: ThreadWork<R, ()> + Send + Drop + 's,
-    L: ThreadWork<R, O> + Send + Drop + 's,
-    V: ThreadWork<R, S> + Send + Drop + 's,
-    O: Send + Drop + 's,
-    S: Send + Drop + 's,
-    A: FirstWork<R, O, S>,
+    L: ThreadWork<R, ()> + Send + Drop + 's,
+    V: ThreadWork<R, ()> + Send + Drop + 's,
+    A: FirstWork<R>,
     W: Write,
 >(
     scope: &Scope<'s, E>,
@@ -173,23 +169,22 @@ fn start_all<
     J: ThreadWork<R, ThreadEnd<DoorRecord, FedLog>> + Send + Drop + 's,
     K: ThreadWork<R, ThreadEnd<OutletRecord, Vec<WriteLog>>> + Send + Drop + 's,
     G: ThreadWork<R, ()> + Send + Drop + 's,
-    L: ThreadWork<R, O> + Send + Drop + 's,
-    V: ThreadWork<R, S> + Send + Drop + 's,
-    O: Send + Drop + 's,
-    S: Send + Drop + 's,
+    L: ThreadWork<R, ()> + Send + Drop + 's,
+    V: ThreadWork<R, ()> + Send + Drop + 's,
 >(
     scope: &Scope<'s, E>,
     rt: &'s R,
     alloc: Global,
     jobs: Jobs<J, K, G, L, V>,
     link: SignalLink<'s>,
-) -> StartedThreads<O, S> {
+) -> StartedThreads {
     let Jobs {
         receiving,
         sending,
         parting,
         logging,
         serving,
+        room,
     } = jobs;
     let Receiving {
         jobs: receiving,
@@ -209,6 +204,7 @@ fn start_all<
         servers,
         unused,
         controls,
+        room,
         are_all: are_receivers && are_senders && is_parting && is_logging && is_serving,
     }
 }

@@ -7,6 +7,8 @@ use crate::gone_dest::GoneDest;
 use crate::late_news::LateNews;
 use crate::log_writes::{write_dest_end, write_gone_end, write_line};
 use crate::receiver_log::ReceiverLog;
+use crate::watcher_places::{LogEnd, WatcherPlaces};
+use crate::watchers::Watched;
 use conf_text::Dest;
 use locked_queues::{MOST_SENDERS, Queues, Set};
 use log_lines::{
@@ -18,7 +20,6 @@ use relay_base::{DestId, NoMemory, add};
 use run_state::{DestSources, EndState, Signals, ThreadWork, Unsent, bit};
 use std::alloc::{AllocError, Global};
 use std::io::Write;
-use std::mem;
 use std::rt::Clock;
 use std::sync::Wait;
 use std::time::Instant;
@@ -38,19 +39,25 @@ struct ReportedDest {
     is_sent: bool,
 }
 
-/// What a log that has ended leaves to that of the next run: its output, and what it has reported of the receivers.
-#[derive(Drop)]
-pub struct LogEnd<L> {
-    /// The output.
-    pub output: L,
-    /// The receivers.
-    pub receivers: Vec<ReceiverLog>,
-}
-
-/// The log to be written: its destinations, where their events are noted, those that are gone, its receivers, its first lines,
-/// its output, and since when the milliseconds of a run count.
+/// The log to be written: its destinations, where their events are noted, those that are gone, its receivers, the place of its
+/// output, and since when the milliseconds of a run count.
 #[derive(Drop)]
 pub struct LogJob<'x, B: Set, L> {
+    queues: &'x Queues<B>,
+    noted: DestSources<'x>,
+    gone: &'x [GoneDest],
+    late_news: &'x LateNews,
+    size: usize,
+    reported: Vec<ReportedDest>,
+    receivers: Vec<ReceiverLog>,
+    places: &'x WatcherPlaces<L>,
+    began: Option<Instant>,
+    ghost all: { length noted.dests.now ≡ B.dests },
+}
+
+/// The log while it is written.
+#[derive(Drop)]
+struct WrittenLog<'x, B: Set, L> {
     queues: &'x Queues<B>,
     noted: DestSources<'x>,
     gone: &'x [GoneDest],
@@ -62,8 +69,6 @@ pub struct LogJob<'x, B: Set, L> {
     gone_reported: u64,
     // The senders that the log has reported as out of memory, a bit each.
     lost_senders: u64,
-    // The first lines.
-    news: String,
     output: L,
     began: Option<Instant>,
     ghost all: { length noted.dests.now ≡ B.dests },
@@ -109,7 +114,20 @@ fn logged_at(noted: DestSources<'_>, place: usize) -> LoggedDest {
     }
 }
 
-impl<'x, B: Set, L: Write + Drop> LogJob<'x, B, L> {
+impl<'x, B: Set, L: Write + Drop> WrittenLog<'x, B, L> {
+    /// Writes it until receivers and senders have ended, and then its last lines.
+    fn write_all<R: Wait + Clock>(&mut self, rt: &R, alloc: Global, signals: &Signals) {
+        self.look_until_stopped(rt, alloc, signals);
+        wait_for_end(rt, signals);
+        if signals.is_handing() {
+            self.write_last_news(rt, alloc, signals);
+        } else {
+            self.write_end(rt, alloc, signals);
+            // Only the end of the relay waits for the output.
+            let _ = self.output.flush();
+        }
+    }
+
     /// Looks at all once a second, until the senders stop.
     fn look_until_stopped<R: Wait + Clock>(&mut self, rt: &R, alloc: Global, signals: &Signals) {
         let times = SystemTimes::since(rt, self.began);
@@ -265,28 +283,68 @@ impl<'x, B: Set, L: Write + Drop> LogJob<'x, B, L> {
     }
 }
 
-impl<'x, B: Set, L: Write + Drop, R: Wait + Clock> ThreadWork<R, LogEnd<L>> for LogJob<'x, B, L> {
+impl<'x, B: Set, L: Write + Drop, R: Wait + Clock> ThreadWork<R, ()> for LogJob<'x, B, L> {
     fn name(&self, alloc: Global) -> Result<String, AllocError> {
         String::from_str(alloc, "log")
     }
 
-    fn work(self, rt: &R, alloc: Global, signals: &Signals) -> LogEnd<L> {
-        let mut job = self;
-        let news = mem::replace(&mut job.news, String::new(alloc));
-        write_line(&mut job.output, Ok(news));
-        job.look_until_stopped(rt, alloc, signals);
-        wait_for_end(rt, signals);
-        if signals.is_handing() {
-            job.write_last_news(rt, alloc, signals);
-        } else {
-            job.write_end(rt, alloc, signals);
-        }
-        let LogJob {
+    fn work(self, rt: &R, alloc: Global, signals: &Signals) {
+        let places = self.places;
+        let Some(earlier) = places.take_log() else {
+            return;
+        };
+        let (mut log, news) = self.written_to(earlier);
+        write_line(&mut log.output, Ok(news));
+        log.write_all(rt, alloc, signals);
+        let WrittenLog {
             receivers,
             output,
             ..
-        } = job;
-        LogEnd { output, receivers }
+        } = log;
+        places.put_log(LogEnd {
+            output,
+            receivers,
+            news: String::new(alloc),
+        });
+    }
+}
+
+impl<'x, B: Set, L> LogJob<'x, B, L> {
+    /// The log behind an earlier one, and its first lines. What that has reported of each receiver is not reported again.
+    fn written_to(self, earlier: LogEnd<L>) -> (WrittenLog<'x, B, L>, String) {
+        let LogJob {
+            queues,
+            noted,
+            gone,
+            late_news,
+            size,
+            reported,
+            mut receivers,
+            places: _,
+            began,
+        } = self;
+        let LogEnd {
+            output,
+            receivers: logged,
+            news,
+        } = earlier;
+        for (log, logged) in receivers.as_mut_slice().iter_mut().zip(logged) {
+            log.resume(logged);
+        }
+        let log = WrittenLog {
+            queues,
+            noted,
+            gone,
+            late_news,
+            size,
+            reported,
+            receivers,
+            gone_reported: 0,
+            lost_senders: 0,
+            output,
+            began,
+        };
+        (log, news)
     }
 }
 
@@ -320,38 +378,29 @@ fn lost_sender_line(alloc: Global, number: usize) -> Result<String, AllocError> 
     Ok(line)
 }
 
-/// The log of destinations, all of them, with this size of their queues, of receivers, and of destinations that are gone, if
-/// one is to be written. It begins with these news. Refuses if out of memory.
-pub(crate) fn log_to<'x, B: Set, L: Write + Drop>(
+/// The log of what is watched, all destinations among it, and of these receivers, if its output is at its place. Refuses if out of
+/// memory.
+pub(crate) fn log_of<'x, B: Set, L: Drop>(
     alloc: Global,
-    queues: &'x Queues<B>,
-    noted: DestSources<'x>,
-    gone: &'x [GoneDest],
-    late_news: &'x LateNews,
-    size: usize,
+    watched: &Watched<'x, B>,
     receivers: Vec<ReceiverLog>,
-    news: String,
-    log: Option<L>,
-    began: Option<Instant>,
+    places: &'x WatcherPlaces<L>,
 ) -> Result<Option<LogJob<'x, B, L>>, NoMemory>
-    requires all { length noted.dests.now ≡ B.dests }
+    requires all { length watched.now.noted.dests.now ≡ B.dests }
 {
-    let Some(output) = log else {
+    if !places.has_log() {
         return Ok(None);
-    };
-    let reported = reported_of(alloc, noted)?;
+    }
+    let reported = reported_of(alloc, watched.noted)?;
     Ok(Some(LogJob {
-        queues,
-        noted,
-        gone,
-        late_news,
-        size,
+        queues: watched.queues,
+        noted: watched.noted,
+        gone: watched.gone,
+        late_news: watched.late_news,
+        size: watched.size,
         reported,
         receivers,
-        gone_reported: 0,
-        lost_senders: 0,
-        news,
-        output,
-        began,
+        places,
+        began: watched.began,
     }))
 }

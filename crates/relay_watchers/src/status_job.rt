@@ -6,6 +6,7 @@ use crate::dest_track::DestTrack;
 use crate::process::{SystemFacts, clock_seconds};
 use crate::receiver_log::WatchedReceiver;
 use crate::status_history::{NO_RATES, SAMPLE_SECONDS, StatusHistory, Totals};
+use crate::watcher_places::WatcherPlaces;
 use conf_text::Dest;
 use dest_queue::Counts;
 use locked_queues::{Queues, Set};
@@ -292,31 +293,35 @@ impl StatusServer {
     }
 }
 
-/// The status server that is to run, and what it shows; since when the milliseconds of a run count.
+/// The place of the status server that is to run, and what it shows; since when the milliseconds of a run count.
 #[derive(Drop)]
-pub struct StatusJob<'x, B: Set> {
-    server: StatusServer,
+pub struct StatusJob<'x, B: Set, L> {
+    places: &'x WatcherPlaces<L>,
     watch: StatusWatch<'x, B>,
     began: Option<Instant>,
 }
 
-impl<'x, B: Set, R: Wait + Clock + RandomSource + SystemFacts> ThreadWork<R, StatusServer>
-    for StatusJob<'x, B> {
+impl<'x, B: Set, L: Drop, R: Wait + Clock + RandomSource + SystemFacts> ThreadWork<R, ()>
+    for StatusJob<'x, B, L> {
     fn name(&self, alloc: Global) -> Result<String, AllocError> {
         String::from_str(alloc, "status")
     }
 
-    /// Serves until receivers and senders have ended, or another run follows. Returns the server.
-    fn work(self, rt: &R, alloc: Global, signals: &Signals) -> StatusServer {
+    /// Serves until receivers and senders have ended, or another run follows.
+    fn work(self, rt: &R, alloc: Global, signals: &Signals) {
         let StatusJob {
-            mut server,
+            places,
             watch,
             began,
         } = self;
+        let Some(mut server) = places.take_server() else {
+            drop(watch);
+            return;
+        };
         let clock = SystemTimes::since(rt, began);
         serve_until_stopped(rt, alloc, signals, &clock, &mut server, &watch);
         drop(watch);
-        server
+        places.put_server(server);
     }
 }
 
@@ -373,18 +378,18 @@ fn look_when_due<B: Set, R: Wait>(
     }
 }
 
-/// The work of a status server that shows these, if there is one.
-pub(crate) fn status_at<'x, B: Set>(
-    server: Option<StatusServer>,
+/// The work of a status server that shows these, if it is at its place.
+pub(crate) fn status_at<'x, B: Set, L: Drop>(
+    places: &'x WatcherPlaces<L>,
     watch: StatusWatch<'x, B>,
     began: Option<Instant>,
-) -> Option<StatusJob<'x, B>> {
-    match server {
-        Some(server) => Some(StatusJob {
-            server,
-            watch,
-            began,
-        }),
-        None => None,
+) -> Option<StatusJob<'x, B, L>> {
+    if !places.has_server() {
+        return None;
     }
+    Some(StatusJob {
+        places,
+        watch,
+        began,
+    })
 }

@@ -4,15 +4,15 @@ ghost use Rattle.std.specs.Prelude.{◌≡◌, length};
 
 use crate::gone_dest::GoneDest;
 use crate::late_news::LateNews;
-use crate::log_job::{LogJob, log_to};
+use crate::log_job::{LogJob, log_of};
 use crate::receiver_log::{ReceiverLog, watched_of};
-use crate::status_job::{StatusJob, StatusServer, StatusWatch, status_at};
+use crate::status_job::{StatusJob, StatusWatch, status_at};
+use crate::watcher_places::WatcherPlaces;
 use locked_queues::{Queues, Set};
 use md5::DIGEST_LEN;
 use relay_base::NoMemory;
 use run_state::DestSources;
 use std::alloc::Global;
-use std::io::Write;
 use std::time::Instant;
 
 /// What the threads that watch a run watch: its queues and its destinations, all of them, those that are gone, what the first
@@ -38,31 +38,18 @@ pub struct Watched<'x, B: Set> {
     pub began: Option<Instant>,
 }
 
-/// The work of the log and that of the status server of a run, and of these receivers: none of a log without an output, and
-/// none of a status server that is not there. The log begins with these news. Refuses if out of memory.
-pub fn watchers_of<'x, B: Set, L: Write + Drop>(
+/// The work of the log and that of the status server of a run, and of these receivers, as far as these are at their places. Refuses
+/// if out of memory.
+pub fn watchers_of<'x, B: Set, L: Drop>(
     alloc: Global,
     watched: &Watched<'x, B>,
     receivers: Vec<ReceiverLog>,
-    news: String,
-    log: Option<L>,
-    server: Option<StatusServer>,
-) -> Result<(Option<LogJob<'x, B, L>>, Option<StatusJob<'x, B>>), NoMemory>
+    places: &'x WatcherPlaces<L>,
+) -> Result<(Option<LogJob<'x, B, L>>, Option<StatusJob<'x, B, L>>), NoMemory>
     requires all { length watched.now.noted.dests.now ≡ B.dests }
 {
     let shown = watched_of(alloc, receivers.as_slice())?;
-    let logging = log_to(
-        alloc,
-        watched.queues,
-        watched.noted,
-        watched.gone,
-        watched.late_news,
-        watched.size,
-        receivers,
-        news,
-        log,
-        watched.began,
-    )?;
+    let logging = log_of(alloc, watched, receivers, places)?;
     let watch = StatusWatch {
         queues: watched.queues,
         noted: watched.noted,
@@ -71,5 +58,5 @@ pub fn watchers_of<'x, B: Set, L: Write + Drop>(
         version: watched.version,
         configuration: watched.configuration,
     };
-    Ok((logging, status_at(server, watch, watched.began)))
+    Ok((logging, status_at(places, watch, watched.began)))
 }

@@ -1,5 +1,6 @@
 //! The commands for a running relay: `report`, `stop` and `reload`.
 
+use crate::file_limit::limited_output;
 use admin_client::{
     AdminCommand, AdminFault, Refusal, ReloadAnswer, ReloadFiles, ask, ask_reload,
     reload_answer_in, reload_request, stop_and_wait,
@@ -14,13 +15,19 @@ use std::io::Write;
 pub fn report(rt: &HostRuntime, alloc: Global, port: u16) -> Status {
     status_of(
         rt,
-        ask(rt, alloc, port, AdminCommand::Report, &mut rt.stdout()),
+        ask(
+            rt,
+            alloc,
+            port,
+            AdminCommand::Report,
+            &mut limited_output(rt),
+        ),
     )
 }
 
 /// Stops the relay with this admin port, and waits for its end if asked to.
 pub fn stop(rt: &HostRuntime, alloc: Global, port: u16, waits: bool) -> Status {
-    let mut output = rt.stdout();
+    let mut output = limited_output(rt);
     let ended = if waits {
         stop_and_wait(rt, alloc, port, &mut output)
     } else {
@@ -50,7 +57,7 @@ pub fn reload(
             say_refusal(rt, text, explain);
             status_of_refusal(refusal)
         }
-        _ => match rt.stdout().write_all(answer.as_slice()) {
+        _ => match limited_output(rt).write_all(answer.as_slice()) {
             Ok(()) => Status::Done,
             Err(_) => status_of(rt, Err(AdminFault::Output)),
         },

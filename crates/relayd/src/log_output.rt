@@ -1,27 +1,41 @@
 //! Standard error as the output of the log.
 
 use crate::file_limit::{ErrorRoom, file_limit};
+use relay_base::NoMemory;
+use relay_watchers::LogBuffer;
 use std::io;
 use std::io::{ErrorKind, Stderr, Write};
+use std::rt::Clock;
+use std::sync::Wait;
+use std::thread::Threads;
 
 /// Standard error. It refuses what has no room in its file, where the system would end the process for it.
 #[derive(Drop)]
-pub struct LogOutput<R> {
+struct LogOutput<R> {
     rt: R,
     output: Stderr,
     limit: Option<u64>,
 }
 
-/// The output of the log, if there is to be one. The thread of the log asks `threads` what room there is.
-pub fn log_output<R: Drop>(rt: &HostRuntime, threads: R, has_log: bool) -> Option<LogOutput<R>> {
+/// The output of the log, if there is to be one. A thread of its own writes to standard error, and asks `threads` what room there
+/// is. Refuses if that thread cannot be started.
+pub fn log_output<R>(
+    rt: &HostRuntime,
+    threads: R,
+    has_log: bool,
+) -> Result<Option<LogBuffer<R>>, NoMemory>
+where
+    R: Threads + Wait + Clock + ErrorRoom + Copy + Send + Drop + 'static,
+{
     if !has_log {
-        return None;
+        return Ok(None);
     }
-    Some(LogOutput {
+    let output = LogOutput {
         rt: threads,
         output: rt.stderr(),
         limit: file_limit(rt),
-    })
+    };
+    Ok(Some(LogBuffer::start(threads, rt.alloc(), output)?))
 }
 
 impl<R: ErrorRoom> Write for LogOutput<R> {

@@ -22,7 +22,7 @@ mod system_faults;
 mod words;
 
 use command_line::{Explain, Invocation, Paths, VERSION};
-use file_limit::ErrorRoom;
+use file_limit::{ErrorRoom, LimitedOutput, file_limit, limited_output};
 use files::{file_at, names_at, sources_at};
 use line_text::Moment;
 use log_output::log_output;
@@ -37,7 +37,7 @@ use senders::Resolve;
 use spool::SpoolDisk;
 use spool_folder::own_folder;
 use std::alloc::Global;
-use std::io::{BufWriter, Stdout};
+use std::io::BufWriter;
 use std::net::{Net, TcpListener, TcpStream};
 use std::process::ExitCode;
 use std::random::RandomSource;
@@ -47,6 +47,9 @@ use std::thread::Threads;
 
 /// The room for output between two writes, in bytes.
 const OUTPUT_ROOM: usize = 65_536;
+
+/// How many bytes the line of a fault has at most.
+const LONGEST_FAULT: usize = 100;
 
 fn main(rt: HostRuntime) -> ExitCode {
     let status = match words::parse_args(&rt, rt.alloc()) {
@@ -85,14 +88,18 @@ where
             ..
         } => run_pass(rt, alloc, *moment, *explain),
         Invocation::Check { paths, .. } => {
-            check(alloc, &mut sources_at(rt, alloc, paths)?, &mut rt.stdout())
+            check(
+                alloc,
+                &mut sources_at(rt, alloc, paths)?,
+                &mut limited_output(rt),
+            )
         }
         Invocation::Route { paths, name, .. } => {
             route(
                 alloc,
                 &mut sources_at(rt, alloc, paths)?,
                 name,
-                &mut rt.stdout(),
+                &mut limited_output(rt),
             )
         }
         Invocation::Replay {
@@ -105,7 +112,7 @@ where
             &mut sources_at(rt, alloc, paths)?,
             &mut file_at(rt, script),
             handed_form(*shows_text),
-            &mut rt.stdout(),
+            &mut limited_output(rt),
         ),
         Invocation::ReplayLines {
             paths,
@@ -117,7 +124,7 @@ where
             &mut sources_at(rt, alloc, paths)?,
             &mut file_at(rt, lines),
             handed_form(*shows_text),
-            &mut rt.stdout(),
+            &mut limited_output(rt),
         ),
         Invocation::RouteNames { paths, names, .. } => run_names(rt, alloc, paths, names),
         Invocation::Run {
@@ -145,8 +152,8 @@ where
                 alloc,
                 &mut sources_at(rt, alloc, paths)?,
                 relay_options(*options),
-                &mut rt.stdout(),
-                log_output(rt, *threads, options.has_log),
+                &mut limited_output(rt),
+                log_output(rt, *threads, options.has_log)?,
                 recorder,
                 folder,
                 &RelayFiles::new(rt, paths),
@@ -159,7 +166,11 @@ where
         Invocation::Report { admin } => Ok(admin::report(rt, alloc, *admin)),
         Invocation::Stop { admin, waits } => Ok(admin::stop(rt, alloc, *admin, *waits)),
         Invocation::Restart { paths, admin, .. } => {
-            check(alloc, &mut sources_at(rt, alloc, paths)?, &mut rt.stdout())?;
+            check(
+                alloc,
+                &mut sources_at(rt, alloc, paths)?,
+                &mut limited_output(rt),
+            )?;
             Ok(admin::stop(rt, alloc, *admin, true))
         }
         Invocation::Reload {
@@ -230,8 +241,13 @@ fn run_pass(
 }
 
 /// Standard output, written when the room is full or it is flushed.
-fn buffered_output(rt: &HostRuntime, alloc: Global) -> Result<BufWriter<Stdout>, RelayFault> {
-    BufWriter::with_capacity(alloc, OUTPUT_ROOM, rt.stdout()).map_err(|_| RelayFault::NoMemory)
+fn buffered_output(
+    rt: &HostRuntime,
+    alloc: Global,
+) -> Result<BufWriter<LimitedOutput<'_>>, RelayFault> {
+    BufWriter::with_capacity(alloc, OUTPUT_ROOM, limited_output(rt)).map_err(
+        |_| RelayFault::NoMemory,
+    )
 }
 
 /// Prints the fault of a command on standard error, if it has one. Returns the status.
@@ -241,7 +257,9 @@ fn print_fault(rt: &HostRuntime, run: Result<Status, RelayFault>) -> Status
     match run {
         Ok(status) => status,
         Err(fault) => {
-            let _ = eprintln!(rt; "relayd: {fault}");
+            if rt.error_has_room(file_limit(rt), LONGEST_FAULT) {
+                let _ = eprintln!(rt; "relayd: {fault}");
+            }
             fault.status()
         }
     }

@@ -1,18 +1,24 @@
 use Rattle.std.proofs.lemmas.Result.{IfOk-weaker, IfErr-weaker}
-use Rattle.relay_run.proofs.RunEndings.{err-is, ok-is, on_ok-is, fails-at_start, fails-early, fails-opened, fails-closing, writes-both, stopped-weaker, followed-weaker, never-stopped, never-followed}
+use Rattle.relay_run.proofs.RunEndings.{err-is, ok-is, on_ok-is, fails-at_start, fails-early, fails-opened, fails-closing, opened-nothing, opened-failed, writes-both, stopped-weaker, followed-weaker, never-stopped, never-followed}
 use Rattle.relay_run.proofs.run_command.run_relay.Goals as goal
 
--- it could not be opened
+-- it could not be opened, and begins again if it is one of a reload
 pub returns-in-Err : goal.returns-in-Err
-returns-in-Err g c = record { stopped = tt; followed = tt; err = fails-at_start _ _ _ c.in-Err.ensures }
+returns-in-Err g c =
+    record {
+      stopped = IfOk-weaker c.open_again.result _ _ (λ e is. never-stopped e _ is) c.open_again.ensures.never_stopped;
+      followed = IfOk-weaker c.open_again.result _ _ (λ e is. followed-weaker e _ _ (λ next waits. (opened-nothing _ _ waits.1, waits.0)) is) c.open_again.ensures.followed;
+      err = IfErr-weaker c.open_again.result _ _ (λ fault is. fails-at_start _ _ _ (rw is c.in-Err.ensures)) c.open_again.ensures.err;
+    }
 
--- its threads did not begin, or what they recorded is not known
+-- its threads did not begin, and it begins again if it is one of a reload; or what they recorded is not known
 pub returns-in-Err-left : goal.returns-in-Err-left
 returns-in-Err-left g c =
+    let fails = err-is _ _ _ c.in-Err-left.is c.run_until_ended-left.ensures.err in
     record {
-      stopped = tt;
-      followed = tt;
-      err = fails-early _ _ _ _ (err-is _ _ _ c.in-Err-left.is c.run_until_ended-left.ensures.err);
+      stopped = IfOk-weaker c.begin_again.result _ _ (λ e is. never-stopped e _ is) c.begin_again.ensures.never_stopped;
+      followed = IfOk-weaker c.begin_again.result _ _ (λ e is. followed-weaker e _ _ (λ next waits. (opened-failed _ _ _ _ waits.1 fails, waits.0)) is) c.begin_again.ensures.followed;
+      err = IfErr-weaker c.begin_again.result _ _ (λ fault is. fails-early _ _ _ _ (rw is fails)) c.begin_again.ensures.err;
     }
 
 -- another one follows, or memory ran out
