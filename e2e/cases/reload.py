@@ -231,25 +231,6 @@ class Connections(Reloads):
         with open(os.path.join(folder, dests[0]), "rb") as file:
             self.assertEqual(file.read(), text_of(lines))
 
-    def test_connections_are_counted_at_once(self):
-        """Those that were handed over are open, in each answer right behind a reload."""
-        store, = self.stores(1)
-        port, = free_ports(1)
-        dests = [f"127.0.0.1:{store.port}"]
-        with self.running(dests, options=("--status", str(port))) as relay, contextlib.ExitStack() as producers:
-            for _ in range(50):
-                producers.enter_context(socket.create_connection(("127.0.0.1", relay.line), LIMIT))
-            self.wait_for(lambda: self.connections(relay, port) == 50, "all are counted")
-            for _ in range(12):
-                self.reloads(relay, dests)
-                self.assertEqual([self.connections(relay, port) for _ in range(3)], [50] * 3)
-            self.stops(relay)
-
-    def connections(self, relay, port):
-        """How many connections of lines the status shows."""
-        receivers = self.status(relay, port)["receivers"]
-        return next(it["connections"] for it in receivers if it["receiver"] == "line")
-
 
 class Changes(Reloads):
     """What a reload changes."""
