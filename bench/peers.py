@@ -10,7 +10,7 @@ from shared import DATA
 
 HOST = "127.0.0.1"
 LINE_PORT, PICKLE_PORT, UDP_PORT, ADMIN_PORT = 22003, 22004, 22005, 22006
-STARTS = 5
+STARTS = 3
 TICKS = os.sysconf("SC_CLK_TCK")
 
 
@@ -69,10 +69,6 @@ def wait_for_port(port, seconds=20):
     return False
 
 
-class NotStarted(Exception):
-    """A relay did not start."""
-
-
 class Relay:
     """A relay's process."""
 
@@ -107,7 +103,7 @@ class Relay:
     def __enter__(self):
         # carbon-c-relay crashes now and then as it starts.
         if not any(self.begin() for _ in range(STARTS)):
-            raise NotStarted(self.name)
+            raise RuntimeError(f"{self.name} does not listen")
         return self
 
     def __exit__(self, *_):

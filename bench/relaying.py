@@ -36,7 +36,7 @@ import struct
 import subprocess
 import time
 
-from peers import (CarbonCRelay, CarbonRelay, HOST, LINE_PORT, NoRelay, NotStarted, PICKLE_PORT, Plan, Relayd, UDP_PORT, WAYS,
+from peers import (CarbonCRelay, CarbonRelay, HOST, LINE_PORT, NoRelay, PICKLE_PORT, Plan, Relayd, UDP_PORT, WAYS,
                    WAYS_WITH_QUEUE)
 from shared import DATA, HERE, demand, missing, options
 from spread import counts_by_store
@@ -215,8 +215,6 @@ def measure(scene, kind):
             if trouble:
                 return f"{trouble}, had handed on {lines:,}"
             used, peak = relay.processor_seconds() - before, relay.peak_memory()
-    except NotStarted:
-        return "did not start"
     finally:
         stores.end()
     lost = (expected or lines) - lines

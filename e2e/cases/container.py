@@ -3,8 +3,6 @@
 import contextlib
 import json
 import os
-import re
-import shlex
 import shutil
 import subprocess
 import tempfile
@@ -29,18 +27,6 @@ DESTINATION_PROTOCOL = line
 LINE_RECEIVER_PORT = 2003
 PICKLE_RECEIVER_PORT = 2004
 """
-
-PAGE = os.path.join(TOP, "docs", "CONTAINERS.md")
-ALONE = ["unshare", "--net", "sh", "-c"]  # with a loopback interface that only the page's commands use
-
-
-def commands_of_page():
-    """The commands of the page after those that build the image, each with its lines."""
-    with open(PAGE, encoding="utf-8") as file:
-        text = file.read().partition("## Run it")[2]
-    lines = "\n".join(line[4:] for line in text.splitlines() if line.startswith("    "))
-    found = re.findall(r"(?ms)^(?:cat > .*?^END|(?:mkdir|podman|curl|echo)\b.*?[^\\])$", lines)
-    return [it.replace(":VERSION", ":trial") for it in found]
 
 
 def needs(*commands):
@@ -157,13 +143,13 @@ class Container(harness.Suite):
         self.assertIn("is not the program that was proved", ran.stderr)
 
     def test_a_relay(self):
-        """It takes lines, is healthy, reads its files again, and keeps what it did not send on a volume."""
+        """It takes lines, is healthy, reads its files again on SIGHUP, and keeps what it did not send on a volume."""
         folder = self.configured()
         with self.relay("first", folder, "--volume", "spool:/var/lib/relayd"):
             self.done("exec", "first", "sh", "-c", "printf 'a 1 1\\nb 2 2\\n' | nc -w 1 127.0.0.1 2003")
             report = "destination localhost:2103:a queued 2 offered 2 kept 2 dropped 0 taken 0"
             self.assertTrue(until(lambda: self.done("exec", "first", "relayd", "report", "--admin", "2015") == report,
-                                  harness.LIMIT), self.logs("first"))
+                                  harness.LIMIT))
             self.done("healthcheck", "run", "first")
             self.assertIn("relayd_destination_queued", self.done("exec", "first", "wget", "-q", "-O", "-", "http://127.0.0.1:8080/metrics"))
             self.configure(folder, CONFIG.format(more=", 127.0.0.1:2203:b"))
@@ -173,12 +159,9 @@ class Container(harness.Suite):
             self.assertEqual(self.stopped("first"), 0)
             self.assertIn("settled", self.logs("first"))
         self.addCleanup(self.ran, "volume", "rm", "--force", "spool")
-        with self.relay("second", folder, "--volume", "spool:/var/lib/relayd", "--env", "RELAYD_WATCH_SECONDS=1"):
-            self.done("exec", "--detach", "second", "sh", "-c", "sleep 1000 | nc -l -p 2103 >/tmp/got")  # a store sends no end
-            self.assertTrue(until(lambda: self.ran("exec", "second", "cat", "/tmp/got").stdout == "a 1 1\nb 2 2\n", harness.LIMIT),
-                            self.logs("second"))
-            self.configure(folder, CONFIG.format(more=""))
-            self.assertTrue(until(lambda: "127.0.0.1:2203:b gone" in self.logs("second"), harness.LIMIT), self.logs("second"))
+        with self.relay("second", folder, "--volume", "spool:/var/lib/relayd"):
+            got = self.done("exec", "second", "timeout", "100", "sh", "-c", "nc -l -p 2103 | sed 2q")
+            self.assertEqual(got, "a 1 1\nb 2 2")
             self.assertEqual(self.stopped("second"), 0)
 
     def test_a_faulty_configuration(self):
@@ -188,29 +171,3 @@ class Container(harness.Suite):
         self.assertEqual(ran.returncode, 1)
         self.assertIn("relayd: config: DESTINATIONS: Missing", ran.stderr)
         self.assertIn("cure:", ran.stderr)
-
-    def test_the_page(self):
-        """All that the page has one type, from the first line to the last, in one folder."""
-        if subprocess.run([*ALONE, "ip link set lo up"], stderr=subprocess.DEVNULL).returncode != 0:
-            self.skipTest("no network of its own can be made here")
-        folder = tempfile.mkdtemp(dir=self.folder)
-        os.chmod(folder, 0o755)
-        wrapper = os.path.join(folder, "podman")
-        with open(wrapper, "w", encoding="utf-8") as file:
-            file.write(f"""#!/bin/sh
-if [ "$1" = run ]; then shift; set -- run {shlex.join(LIMITS)} "$@"; fi
-exec {shlex.join([shutil.which("podman"), *self.podman[1:]])} "$@"
-""")
-        os.chmod(wrapper, 0o755)
-        # What is not ready yet is asked again.
-        again = "for turn in $(seq 100); do if {0}\nthen break; fi; sleep 0.5; done"
-        commands = commands_of_page()
-        script = "\n".join(it if it.startswith(("cat", "mkdir", "podman run", "podman stop")) else again.format(it) for it in commands)
-        self.addCleanup(self.ran, "rm", "--force", "relayd")
-        ran = subprocess.run([*ALONE, f"set -e; ip link set lo up; {script}"], cwd=folder, stdin=subprocess.DEVNULL,
-                             stdout=subprocess.PIPE, stderr=subprocess.PIPE, text=True, timeout=harness.LIMIT,
-                             env=os.environ | {"PATH": f"{folder}{os.pathsep}{os.environ['PATH']}"})
-        self.assertEqual(ran.returncode, 0, ran.stderr)
-        for said in ("healthy\n", "destination 127.0.0.1:2203:b queued", "reloaded\n"):
-            self.assertIn(said, ran.stdout, ran.stderr)
-        self.assertEqual(len(commands), 11, commands)

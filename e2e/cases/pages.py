@@ -72,11 +72,6 @@ class Pages(PageSuite):
     def test_replay(self):
         self.page("docs/REPLAY.md", links=("examples",))
 
-    def test_containers(self):
-        """One short page. The cases of `container` run its commands."""
-        self.page("docs/CONTAINERS.md")
-        self.assertLessEqual(len(WORD.findall(text_of("docs/CONTAINERS.md"))), 600)
-
     def test_readme(self):
         if shutil.which("nc") is None:
             self.skipTest("netcat-openbsd is missing")

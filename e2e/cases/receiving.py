@@ -344,14 +344,15 @@ class Examples(Receiving):
 
 
 class Taking(Receiving):
-    """Errors of taking connections and datagrams."""
+    """Errors of taking connections."""
 
     @contextlib.contextmanager
-    def refused_with(self, relay, error, calls="accept4,accept"):
-        """While it holds, the system refuses each try to take a connection, or what these calls do, with this error."""
+    def refused_with(self, relay, error):
+        """While it holds, the system refuses each try to take a connection with this error."""
         if shutil.which("strace") is None:
             self.skipTest("strace is missing")
-        words = ["strace", "-f", "-p", str(relay.child.pid), "-e", f"trace={calls}", "-e", f"inject={calls}:error={error}"]
+        words = ["strace", "-f", "-p", str(relay.child.pid), "-e", "trace=accept4,accept",
+                 "-e", f"inject=accept4,accept:error={error}"]
         with subprocess.Popen(words, stderr=subprocess.PIPE) as tracer:
             try:
                 if not re.search(rb"attached", tracer.stderr.readline()):
@@ -375,28 +376,6 @@ class Taking(Receiving):
                 self.assertRegex(paused, rb"\Apaused: [a-z ]+ \(error %d\)\Z" % number)
                 self.assertEqual(again, b"accepting again")
                 self.ends(relay)
-
-    def test_an_error_of_datagrams_that_passes(self):
-        """A receiver of datagrams goes on after one, says so, and takes what has come meanwhile."""
-        for error, number in (("ECONNABORTED", 103), ("ENOMEM", 12), ("ENETDOWN", 100)):
-            with self.subTest(error), self.logged() as relay:
-                with self.refused_with(relay, error, "recvfrom,recvmsg"):
-                    relay.datagram(b"a 1 1\n")
-                    self.wait_for(lambda: relay.log.of("udp", "receiver"), "it says that it pauses")
-                self.wait_for(lambda: relay.store.lines() == [b"a 1 1"], "the datagram is taken in the end")
-                self.wait_for(lambda: b"accepting again" in relay.log.of("udp", "receiver"), "it says that it goes on")
-                self.assertRegex(relay.log.of("udp", "receiver")[0], rb"\Apaused: [a-z ]+ \(error %d\)\Z" % number)
-                self.ends(relay)
-
-    def test_an_error_of_datagrams_that_ends_it(self):
-        """A receiver of datagrams whose socket is none any more receives nothing more."""
-        with self.logged() as relay:
-            with self.refused_with(relay, "ENOTSOCK", "recvfrom,recvmsg"):
-                relay.datagram(b"a 1 1\n")
-                self.wait_for(lambda: relay.log.of("udp", "receiver"), "it says that it has failed")
-            self.assertRegex(relay.log.of("udp", "receiver")[0], rb"\Afailed: [a-z -]+ \(error 88\)\Z")
-            self.assertEqual(relay.command(b"stop"), b"stopping\n")
-            self.assertEqual(relay.child.wait(LIMIT), 3)
 
     def test_an_error_that_ends_it(self):
         """A receiver whose listener is none any more receives nothing more: status and log say so, and the others go on.

@@ -231,25 +231,6 @@ class Connections(Reloads):
         with open(os.path.join(folder, dests[0]), "rb") as file:
             self.assertEqual(file.read(), text_of(lines))
 
-    def test_connections_are_counted_at_once(self):
-        """Those that were handed over are open, in each answer right behind a reload."""
-        store, = self.stores(1)
-        port, = free_ports(1)
-        dests = [f"127.0.0.1:{store.port}"]
-        with self.running(dests, options=("--status", str(port))) as relay, contextlib.ExitStack() as producers:
-            for _ in range(50):
-                producers.enter_context(socket.create_connection(("127.0.0.1", relay.line), LIMIT))
-            self.wait_for(lambda: self.connections(relay, port) == 50, "all are counted")
-            for _ in range(12):
-                self.reloads(relay, dests)
-                self.assertEqual([self.connections(relay, port) for _ in range(3)], [50] * 3)
-            self.stops(relay)
-
-    def connections(self, relay, port):
-        """How many connections of lines the status shows."""
-        receivers = self.status(relay, port)["receivers"]
-        return next(it["connections"] for it in receivers if it["receiver"] == "line")
-
 
 class Changes(Reloads):
     """What a reload changes."""
@@ -370,24 +351,6 @@ class Changes(Reloads):
                     self.assertTrue(there["connected"])
             self.stops(relay)
 
-    def test_counts_of_a_sealed_run_go_on(self):
-        """So do those of a run with more offers than a history has room for, and what was queued comes, once and in order."""
-        slow, = self.stores(1, reads=False, room=4096)
-        dests = [f"127.0.0.1:{slow.port}"]
-        lines = numbered(70_000)
-        with self.running(dests, options=("--drain", FOREVER), MAX_QUEUE_SIZE="100000") as relay:
-            relay.lines(text_of(lines))
-            self.wait_for(lambda: relay.totals()["kept"] == len(lines), "all is queued")
-            self.reloads(relay, dests, MAX_QUEUE_SIZE="100000")
-            counts = relay.totals()
-            self.assertEqual([counts[name] for name in ("offered", "kept", "dropped")], [len(lines), len(lines), 0])
-            self.assertEqual(counts["queued"] + counts["taken"], len(lines))
-            slow.read_on()
-            self.wait_for(lambda: len(slow.lines()) == len(lines), "all lines have come")
-            self.assertEqual(slow.lines(), lines)
-            self.stops(relay)
-        self.assertIn(b"run 1: sealed 0\n", relay.log.lines)
-
     def received(self, relay, port):
         """How many datapoints and bad lines the status has."""
         receivers = self.status(relay, port)["receivers"]
@@ -409,52 +372,6 @@ class Changes(Reloads):
             with open(name, encoding="ascii") as file:
                 text = file.read()
             self.assertIn((b"run.%d" % turn).hex(), text)
-
-
-class Returns(Reloads):
-    """Destinations that one reload removes and a later one brings back, with --spool: files keep what was not sent."""
-
-    def setUp(self):
-        super().setUp()
-        self.spool = self.path("spool")
-        os.mkdir(self.spool)
-        self.there, = self.stores(1)
-        self.port, = free_ports(1)
-        self.names = [f"127.0.0.1:{self.there.port}", f"127.0.0.1:{self.port}"]
-
-    def keeping(self, *options):
-        """A relay that keeps in the folder what it does not send."""
-        return self.running(self.names, options=("--spool", self.spool, *options))
-
-    def goes(self, relay, waits=True):
-        """The second destination is removed, and all of it is over, if somebody is to wait for that."""
-        before = len(relay.log.of(self.names[1]))
-        self.reloads(relay, self.names[:1])
-        if waits:
-            self.wait_for(lambda: any(line.startswith(b"gone, ") for line in relay.log.of(self.names[1])[before:]),
-                          "it is gone")
-
-    def store(self):
-        """Its store, from now on."""
-        store = Store(self.port)
-        self.addCleanup(store.stop)
-        return store.start()
-
-    def test_a_stop_with_nothing_left(self):
-        """It takes no longer than without a return."""
-        def waited():
-            with self.keeping() as relay:
-                store = self.store()
-                self.wait_for(store.is_connected, "it is connected")
-                self.goes(relay)
-                self.reloads(relay, self.names)
-                self.wait_for(lambda: store.connections() == 2, "it is connected again")
-                began = time.monotonic()
-                self.stops(relay)
-                store.stop()
-                return time.monotonic() - began
-
-        self.gets_below(2.0, waited)
 
 
 class Refusals(Reloads):

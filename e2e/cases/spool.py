@@ -5,13 +5,11 @@ import ctypes
 import http.client
 import json
 import os
-import shutil
 import signal
 import subprocess
 import tempfile
 import threading
 import time
-import unittest
 
 from fixtures import sockets
 from fixtures.harness import LIMIT, Ran, run
@@ -27,8 +25,6 @@ QUEUE = "100000"
 FOREVER = "3600"  # seconds: for so long no case waits
 REST = 0.05       # seconds between two reads of a slow store
 LIBC = ctypes.CDLL(None, use_errno=True)
-# What a stop asks of the system for a file, and the number of the call before which it is killed.
-CALLS = [("openat", 1), ("openat", 2), ("write", 1), ("write", 3), ("fsync", 1), ("fsync", 2), ("rename", 1), ("rename", 2)]
 
 
 def numbered(count, prefix=b"a"):
@@ -207,20 +203,6 @@ class Spool(WithRelays):
             second = bytes(store.taken[-1]).split(b"\n")[:-1]
             self.assertEqual(second, LONG[len(LONG) - len(second):])
             self.settles(relay)
-
-    def test_a_file_that_is_cut_while_it_is_sent(self):
-        """The store gets whole lines of it alone: what comes later is not glued to a part of one."""
-        store, dest = self.store_that_reads_nothing()
-        self.write(dest, text_of(LONG))
-        with self.spooling([dest]) as relay:
-            self.begins_to_send(store)
-            os.truncate(self.path(dest), 1_000)
-            self.queued(relay, [b"live 1 1"])
-            store.read_on()
-            self.wait_for(lambda: b"live 1 1\n" in store.text(), "the next line has come")
-            self.settles(relay)
-        came = {line for taken in store.taken for line in bytes(taken).split(b"\n")[:-1]}
-        self.assertEqual(came - set(LONG), {b"live 1 1"})
 
     def test_it_is_killed_while_the_file_is_sent(self):
         """The file is as it was, and the store gets lines twice at most, never cut ones."""
@@ -470,55 +452,6 @@ class Spool(WithRelays):
                       log.lines)
         self.assertEqual(self.files(), [dest + "~aside"])
 
-    def test_what_is_put_aside_replaces_nothing(self):
-        """The second one has a number behind its name."""
-        dest = f"127.0.0.1:{free_ports(1)[0]}"
-        for text in (b"first", b"second"):
-            self.write(dest, text)
-            with self.spooling([dest]) as relay:
-                self.settles(relay)
-        self.assertEqual(self.files(), [dest + "~aside", dest + "~aside.1"])
-        for name, text in zip(self.files(), (b"first", b"second")):
-            with open(self.path(name), "rb") as file:
-                self.assertEqual(file.read(), text)
-
-    def test_a_link_and_a_fifo(self):
-        """They are not followed and not waited for, and are put aside."""
-        store, = self.stores(1)
-        dest = f"127.0.0.1:{store.port}"
-        self.write("~target", b"a 1 1\n")
-        os.symlink(self.path("~target"), self.path(dest))
-        for number in range(2):
-            with self.spooling([dest]) as relay:
-                line = b"b%d 1 1" % number
-                relay.lines(line + b"\n")
-                self.wait_for(lambda it=line: store.lines()[-1:] == [it], "the line has come, and the relay works")
-                self.settles(relay)
-            if number == 0:
-                os.mkfifo(self.path(dest))
-        self.assertEqual(store.lines(), [b"b0 1 1", b"b1 1 1"])
-        self.assertEqual(self.files(), [dest + "~aside", dest + "~aside.1", "~target"])
-
-    def test_what_a_killed_stop_left(self):
-        """Where the file is not there, its lines are sent; otherwise it is put aside. The log names it."""
-        store, = self.stores(1)
-        dest = f"127.0.0.1:{store.port}"
-        left = numbered(10, b"left")
-        for held, sent in ([], left), (numbered(10), numbered(10)):
-            with self.subTest(held=len(held)):
-                if held:
-                    self.write(dest, text_of(held))
-                self.write(dest + "~new", text_of(left))
-                before = len(store.lines())
-                with self.spooling([dest], "--log") as relay:
-                    log = Log(relay.child.stderr)
-                    self.wait_for(lambda it=sent, at=before: store.lines()[at:] == it, "the lines are sent")
-                    self.ends(relay)
-                    log.thread.join(LIMIT)
-                self.assertTrue(any(line.startswith(b"spool: " + self.path(dest).encode() + b"~new: ") for line in log.lines))
-        self.assertEqual(self.files(), [dest + "~aside"])
-        self.assertEqual(self.held(dest + "~aside"), left)
-
     def test_a_file_of_no_destination(self):
         """It stays, the log names it, and so does a note of check."""
         store, = self.stores(1)
@@ -565,48 +498,6 @@ class Spool(WithRelays):
             self.wait_for(lambda: store.lines() == [b"a 1 1"], "the line has come")
             self.settles(relay)
         self.assertEqual(self.files(), [dest + "~aside"])
-
-
-    @unittest.skipUnless(shutil.which("strace"), "strace is not there")
-    def test_a_stop_that_is_killed_at_each_call(self):
-        """The file of an earlier run is sent once, and of the queue what the next start finds in the destination's file."""
-        for call, number in CALLS:
-            for earlier in (b"", text_of(numbered(COUNT, b"old")), text_of(numbered(COUNT, b"old")) + b"cut 1 17"):
-                with self.subTest(call=call, number=number, earlier=earlier[-9:]):
-                    self.killed_at(call, number, earlier)
-
-    def killed_at(self, call, number, earlier):
-        """A stop is killed before this call of those that name the destination's files; then a relay starts."""
-        subprocess.run(["find", self.dir, "-mindepth", "1", "-delete"], check=True)
-        port, = free_ports(1)
-        dest = f"127.0.0.1:{port}"
-        old, queued = earlier.split(b"\n")[:-1], numbered(COUNT, b"new")
-        if earlier:
-            self.write(dest, earlier)
-        with self.spooling([dest]) as relay:
-            self.queued(relay, queued)
-            words = ["strace", "-f", "-p", str(relay.child.pid), "-e", f"trace={call}",
-                     "-e", f"inject={call}:signal=SIGKILL:when={number}"]
-            for name in (dest, dest + "~new", dest + "~aside"):
-                words += ["-P", self.path(name)]
-            with subprocess.Popen(words, stderr=subprocess.PIPE) as tracer:
-                tracer.stderr.readline()
-                with contextlib.suppress(OSError):
-                    relay.ask(b"stop", b"\n")
-                is_killed = relay.child.wait(LIMIT) == -signal.SIGKILL
-                tracer.communicate(timeout=LIMIT)
-        store = Store(port).start()
-        self.addCleanup(store.stop)
-        with self.spooling([dest]) as relay:
-            relay.lines(b"last 1 1\n")
-            self.wait_for(lambda: store.lines()[-1:] == [b"last 1 1"], "the last line has come")
-            self.settles(relay)
-        came = store.lines()[:-1]
-        self.assertEqual(came[:len(old)], old)
-        kept = came[len(old):]
-        self.assertEqual(kept, queued[:len(kept)])
-        if not is_killed:
-            self.assertEqual(kept, queued)
 
 
 class Restart(WithRelays):

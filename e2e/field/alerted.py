@@ -1,6 +1,5 @@
 """The alerts of the examples, in Prometheus: each fires while its trouble lasts, and ends with it."""
 
-import contextlib
 import json
 import os
 import re
@@ -79,32 +78,6 @@ class Producer:
         self.thread.join()
 
 
-@contextlib.contextmanager
-def refused_at(process, name, error):
-    """Meanwhile the system refuses each connection to the thread of a process with this name, with this error."""
-    thread, = (it for it in os.listdir(f"/proc/{process}/task") if comm_of(process, it) == name)
-    words = ["strace", "-p", thread, "-e", "trace=accept4,accept", "-e", f"inject=accept4,accept:error={error}"]
-    with subprocess.Popen(words, stderr=subprocess.DEVNULL) as tracer:
-        try:
-            wait_until(lambda: tracer_of(process, thread) == tracer.pid)
-            yield
-        finally:
-            tracer.terminate()
-            tracer.wait(LIMIT)
-
-
-def comm_of(process, thread):
-    """The name of a thread."""
-    with open(f"/proc/{process}/task/{thread}/comm", encoding="ascii") as file:
-        return file.read().strip()
-
-
-def tracer_of(process, thread):
-    """The process that traces a thread, 0 if none does."""
-    with open(f"/proc/{process}/task/{thread}/status", encoding="ascii") as file:
-        return int(re.search(r"TracerPid:\t(\d+)", file.read())[1])
-
-
 class Alerted(Field):
     """One relay, one store, one trouble after the other."""
 
@@ -153,37 +126,10 @@ class Alerted(Field):
         steady = Producer(relay.line_port)
         self.ends(prometheus)
         steady.end()
-        # The relay is away, and then another one is there.
+        # The relay is away.
         began = time.time()
         relay.end()
         self.fire(prometheus, began, "Away")
-        relay = self.begin(Relayd(self.path("again"), [f"{HOST}:{port}"], queue=PLACES, options=("--status", str(status))))
-        steady = Producer(relay.line_port)
-        self.ends(prometheus)
-        steady.end()
-
-    def test_a_receiver_that_dies(self):
-        """A receiver whose listener is none any more takes nothing until the relay is started again."""
-        port, status = free_ports(2)
-        store = Store(port)
-        self.addCleanup(store.stop)
-        store.start()
-        options = ("--status", str(status))
-        relay = self.begin(Relayd(self.path("relay"), [f"{HOST}:{port}"], options=options))
-        prometheus = self.begin(Alerting(self.path("prometheus"), status))
-        steady = Producer(relay.line_port)
-        self.assertTrue(wait_until(lambda: prometheus.query("relayd_receiver_datapoints_total > 1000")), "it is scraped")
-        self.ends(prometheus)
-        began = time.time()
-        with refused_at(relay.process.pid, "pickle", "ENOTSOCK"), contextlib.suppress(ConnectionError):
-            socket.create_connection((HOST, relay.pickle_port), LIMIT).close()
-            self.fire(prometheus, began, "ReceiverDead")
-        steady.end()
-        relay.end()
-        relay = self.begin(Relayd(self.path("again"), [f"{HOST}:{port}"], options=options))
-        steady = Producer(relay.line_port)
-        self.ends(prometheus)
-        steady.end()
 
     def test_a_store_that_takes_nothing(self):
         port, status = free_ports(2)
@@ -201,7 +147,7 @@ class Alerted(Field):
         self.assertTrue(wait_until(lambda: "TakesNothing" not in prometheus.firing()), "it ends")
 
     def test_a_dead_receiver(self):
-        """The times of that alert, by promtool."""
+        """A relay whose receiver has no descriptor has none for a scrape either, so promtool gives the series."""
         folder = self.path("promtool")
         os.makedirs(folder)
         tests = {"rule_files": [os.path.join(TOP, "examples", "alerts.yml")], "evaluation_interval": "5s", "tests": [{

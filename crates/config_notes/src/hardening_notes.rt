@@ -16,16 +16,15 @@ pub(crate) fn add_long_name_note(notes: &mut Notes) {
     );
 }
 
-/// A note if there is rewriting, patterns begin with `^`, and no rewrite rule strips white space beyond ASCII: a name that
-/// begins with it is found by none of them, and carbon's stores strip it.
+/// A note if patterns begin with `^`, and no rewrite rule strips white space beyond ASCII: a name that begins with it
+/// is found by none of them, and carbon's stores strip it.
 pub(crate) fn add_white_note(
     alloc: Global,
     notes: &mut Notes,
     rules: Option<&IniFile<'_>>,
     rewrite: Option<TextFile<'_>>,
 ) {
-    let is_tied = has_tied_rule(rules) || has_tied_rewrite(rewrite);
-    if rewrite.is_some() && is_tied && !strips_white(alloc, notes, rewrite) {
+    if (has_tied_rule(rules) || has_tied_rewrite(rewrite)) && !strips_white(alloc, notes, rewrite) {
         notes.add(
             "a pattern that begins with `^` does not match a name that begins with white space beyond ASCII, such as U+00A0, and carbon's stores strip that; write the two rules `^\\s+|\\s+$ =` and `^.*\\s.*$ =` at the head of [pre]",
         );

@@ -13,12 +13,6 @@ pub(crate) fn odd_pattern(text: &str) -> Option<&'static str> {
         Some("the quotes are part of the pattern, which then finds nothing; write it without them")
     } else if is_between(text, '/') {
         Some("the slashes are part of the pattern, which then finds nothing; write it without them")
-    } else if is_of_sed(text) {
-        Some(
-            "this looks like a command of sed; write the expression alone, and the replacement of a rewrite rule after `=`",
-        )
-    } else if has_lone_space(text) {
-        Some("the pattern has a space, and no metric name has one, so it finds nothing")
     } else if has_comment(text) {
         Some(
             "the comment is part of the pattern, which then finds nothing; write it on a line of its own",
@@ -47,32 +41,6 @@ fn is_in_quotes(text: &str) -> bool {
         '"', '\'', '\u{201c}', '\u{201d}', '\u{201e}', '\u{2018}', '\u{2019}',
     ];
     text.chars().count() > 1 && text.starts_with(quotes) && text.ends_with(quotes)
-}
-
-/// Whether a text is a substitution of `sed`, as `s/a/b/`.
-fn is_of_sed(text: &str) -> bool {
-    match text.strip_prefix("s/") {
-        Some(rest) => rest.contains('/'),
-        None => false,
-    }
-}
-
-/// Whether a pattern has a space which a name must have, if the pattern is to be found in it: it has no alternatives, and
-/// nothing that repeats or leaves out.
-fn has_lone_space(text: &str) -> bool {
-    text.contains(' ') && !text.contains(['|', '[', '?', '*', '{', '#'])
-}
-
-/// Patterns that are found as the whole of each name.
-const WHOLE_NAMES: [&str; 6] = [".*", "^.*", ".*$", "^.*$", "^.+$", ".+"];
-
-/// What is odd in a whole rule.
-pub(crate) fn odd_rule(pattern: &str, replacement: &str) -> Option<&'static str> {
-    if replacement.is_empty() && WHOLE_NAMES.contains(&pattern) {
-        Some("the rule drops every name")
-    } else {
-        None
-    }
 }
 
 /// Whether a text begins and ends with a character.

@@ -17,17 +17,6 @@ pub(crate) fn rule_above(sections: &[Section], number: usize) -> Option<&Section
     None
 }
 
-/// The first rule that takes every name and does not continue, so that none is left for the default rule; `None` if it
-/// finds none.
-pub(crate) fn rule_before_default(sections: &[Section]) -> Option<&Section> {
-    for section in sections {
-        if takes_all(section, "") {
-            return Some(section);
-        }
-    }
-    None
-}
-
 /// Whether a rule takes every name in which a pattern is found, and does not continue.
 fn takes_all(rule: &Section, pattern: &str) -> bool {
     match rule.get("pattern") {

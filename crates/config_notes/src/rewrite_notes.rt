@@ -1,6 +1,6 @@
 //! Notes of a rewrite file that has no fault.
 
-use crate::odd_text::{add_odd_text, odd_pattern, odd_replacement, odd_rule};
+use crate::odd_text::{add_odd_text, odd_pattern, odd_replacement};
 use note_text::{Notes, TextFile, rule_in};
 use relay_base::strip;
 
@@ -21,7 +21,5 @@ fn odd_in(line: &str) -> Option<&'static str> {
         return None;
     }
     let rule = rule_in(line)?;
-    odd_rule(rule.key, rule.value)
-        .or(odd_pattern(rule.key))
-        .or(odd_replacement(rule.value))
+    odd_pattern(rule.key).or(odd_replacement(rule.value))
 }

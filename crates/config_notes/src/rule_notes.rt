@@ -1,7 +1,7 @@
 //! Notes of relay rules that have no fault.
 
 use crate::odd_text::{add_odd_text, odd_pattern};
-use crate::reach::{rule_above, rule_before_default};
+use crate::reach::rule_above;
 use conf_text::{Dest, Section};
 use note_text::{
     EscapedText, IniFile, NearestKey, Notes, RULE_KEYS, SectionAt, TextFile, add_passed_over,
@@ -33,19 +33,7 @@ pub(crate) fn add_rule_notes(
                 "{at}: never reached: [{}] above it takes every name that it could take",
                 EscapedText(above.name())
             ));
-        } else if !section.contains_key("pattern") {
-            add_unreached_default(notes, at, sections);
         }
-    }
-}
-
-/// A note of a default rule for which another rule leaves no name.
-fn add_unreached_default(notes: &mut Notes, at: SectionAt<'_>, sections: &[Section]) {
-    if let Some(other) = rule_before_default(sections) {
-        notes.add(format_args!(
-            "{at}: never reached: [{}] takes every name, and the default rule is tried last",
-            EscapedText(other.name())
-        ));
     }
 }
 

@@ -73,11 +73,6 @@ impl Cause {
         cure: Some(Cure::OTHER_FILE),
     };
 
-    pub(crate) const LINES_AS_SCRIPT: Cause = Cause {
-        text: "the line is a datapoint, and the file looks like one of lines, which --lines takes",
-        cure: Some(Cure::OTHER_FILE),
-    };
-
     pub(crate) const NO_RELAY_SECTION: Cause = Cause {
         text: "the file has no section [relay]",
         cure: None,
@@ -98,7 +93,7 @@ impl Cause {
         cure: None,
     };
 
-    pub(crate) const ADDRESS_OF_IPV6: Cause = Cause {
+    pub(crate) const ADDRESS_IN_BRACKETS: Cause = Cause {
         text: "relayd accepts no IPv6 address as a host",
         cure: Some(Cure::HOST_NAME),
     };
@@ -116,26 +111,6 @@ impl Cause {
     pub(crate) const LIST_IN_BRACKETS: Cause = Cause {
         text: "a list and its items are written without brackets or quotes",
         cure: Some(Cure::ITEMS_ALONE),
-    };
-
-    pub(crate) const VALUE_IN_QUOTES: Cause = Cause {
-        text: "a value is written without quotes",
-        cure: Some(Cure::WITHOUT_QUOTES),
-    };
-
-    pub(crate) const CONTINUED_BY_BACKSLASH: Cause = Cause {
-        text: "a backslash at the end does not continue a line",
-        cure: Some(Cure::ONE_LINE),
-    };
-
-    pub(crate) const SEMICOLON_BETWEEN_ITEMS: Cause = Cause {
-        text: "commas separate the items of a list",
-        cure: Some(Cure::COMMA_FOR_SEMICOLON),
-    };
-
-    pub(crate) const TWO_INSTANCES: Cause = Cause {
-        text: "a destination has one instance at most",
-        cure: None,
     };
 
     pub(crate) const SCHEME: Cause = Cause {
@@ -213,26 +188,6 @@ impl Cause {
         cure: Some(Cure::FROM_C_RELAY),
     };
 
-    pub(crate) const RELAY_NG_FILE: Cause = Cause {
-        text: "the file looks like a configuration of carbon-relay-ng, which relayd cannot read",
-        cure: Some(Cure::FROM_RELAY_NG),
-    };
-
-    pub(crate) const AGGREGATION_FILE: Cause = Cause {
-        text: "the file looks like aggregation rules of carbon, and relayd does not aggregate",
-        cure: Some(Cure::KEEP_CARBON_AGGREGATOR),
-    };
-
-    pub(crate) const JSON_FILE: Cause = Cause {
-        text: "the file looks like JSON, which relayd cannot read",
-        cure: Some(Cure::SECTIONS_AND_KEYS),
-    };
-
-    pub(crate) const YAML_FILE: Cause = Cause {
-        text: "the file looks like YAML, which relayd cannot read",
-        cure: Some(Cure::SECTIONS_AND_KEYS),
-    };
-
     pub(crate) const ESCAPE_IN_REPLACEMENT: Cause = Cause {
         text: "after a backslash relayd expects a digit from 1 to 9, the number of a group, or a second backslash",
         cure: None,
@@ -281,17 +236,6 @@ pub(crate) fn add_cure(notes: &mut Notes, cause: Option<Cause>, cure: Cure) {
     };
     notes.add(cause);
     notes.add(cause.cure_or(cure));
-}
-
-/// Adds the cause of a fault, if it is known, and its own cure, if it has one.
-pub(crate) fn add_cause(notes: &mut Notes, cause: Option<Cause>) {
-    let Some(cause) = cause else {
-        return;
-    };
-    notes.add(cause);
-    if let Some(cure) = cause.cure {
-        notes.add(cure);
-    }
 }
 
 impl fmt::Display for Cause {

@@ -15,26 +15,6 @@ impl Cure {
         "write the files of relayd by hand: docs/MIGRATING_C_RELAY.md says what corresponds",
     );
 
-    pub(crate) const FROM_RELAY_NG: Cure = Cure(
-        "write the files of relayd by hand: docs/MIGRATING_CARBON_RELAY_NG.md says what corresponds",
-    );
-
-    pub(crate) const KEEP_CARBON_AGGREGATOR: Cure = Cure(
-        "leave these metrics to carbon-aggregator: docs/MIGRATING.md",
-    );
-
-    pub(crate) const SECTIONS_AND_KEYS: Cure = Cure(
-        "write sections and keys, as in examples/relay.conf",
-    );
-
-    pub(crate) const WITHOUT_QUOTES: Cure = Cure("write it without them");
-
-    pub(crate) const COMMA_FOR_SEMICOLON: Cure = Cure("write a comma for `;`");
-
-    pub(crate) const JOIN_LISTS: Cure = Cure(
-        "write both lists on one line, with a comma between; to delete one loses its stores",
-    );
-
     pub(crate) const HOST_NAME: Cure = Cure(
         "write a host name that has the address, for example one of /etc/hosts",
     );
@@ -195,12 +175,6 @@ impl Cure {
 
     pub(crate) const CLOSE_GROUP: Cure = Cure(
         "close it, or write \\( or \\[ for the character itself",
-    );
-
-    pub(crate) const BRACKET_ITSELF: Cure = Cure("write \\) for the character itself");
-
-    pub(crate) const BYTE_AS_HEX: Cure = Cure(
-        "write the byte as \\x and two digits, as \\x41 for \\101",
     );
 
     pub(crate) const REPEAT_SOMETHING: Cure = Cure(

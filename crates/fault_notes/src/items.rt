@@ -34,14 +34,10 @@ pub(crate) fn cause_of_item(alloc: Global, notes: &mut Notes, text: &str) -> Cau
         Cause::NO_BREAK_SPACE
     } else if names_key(text) {
         Cause::VALUE_OF_OTHER_KEY
-    } else if text.contains("]:") || text.contains("::") {
-        Cause::ADDRESS_OF_IPV6
-    } else if text.ends_with('\\') {
-        Cause::CONTINUED_BY_BACKSLASH
+    } else if text.contains("]:") {
+        Cause::ADDRESS_IN_BRACKETS
     } else if text.starts_with(['[', '(', '{', '"', '\'']) {
         Cause::LIST_IN_BRACKETS
-    } else if text.contains(';') {
-        Cause::SEMICOLON_BETWEEN_ITEMS
     } else if text.contains('=') {
         Cause::INSTANCE_AFTER_EQUALS
     } else if text.contains("://") {
@@ -63,16 +59,14 @@ fn cause_of_parts(alloc: Global, notes: &mut Notes, text: &str) -> Cause {
     let Some((_, rest)) = text.split_once(':') else {
         return Cause::NO_PORT;
     };
-    let (port, instance) = match rest.split_once(':') {
-        Some((port, instance)) => (port, instance),
-        None => (rest, ""),
+    let port = match rest.split_once(':') {
+        Some((port, _)) => port,
+        None => rest,
     };
-    if !is_port(alloc, notes, port) {
-        Cause::BAD_PORT
-    } else if instance.contains(':') {
-        Cause::TWO_INSTANCES
-    } else {
+    if is_port(alloc, notes, port) {
         Cause::BAD_HOST
+    } else {
+        Cause::BAD_PORT
     }
 }
 

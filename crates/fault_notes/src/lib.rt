@@ -26,7 +26,6 @@ mod line_notes;
 mod list_faults;
 mod name_notes;
 mod not_text;
-mod other_files;
 mod pattern_faults;
 mod rewrite_faults;
 mod rule_faults;

@@ -2,11 +2,8 @@
 
 use crate::cause::{Cause, add_cure};
 use crate::cure::Cure;
-use crate::other_files::cause_of_other_file;
 use conf_text::IniFault;
-use note_text::{
-    FileLine, Notes, TextFile, first_like, is_header, is_indented, key_value, line_numbered,
-};
+use note_text::{FileLine, Notes, TextFile, first_like, is_header, is_indented, line_numbered};
 use relay_base::strip;
 
 /// Notes of a fault in a line: the line, what is wrong in it, and the cure; `header` is the cure of a key
@@ -15,7 +12,7 @@ pub(crate) fn add_line_fault(notes: &mut Notes, file: TextFile<'_>, fault: IniFa
     let (number, cure) = match fault {
         IniFault::NoSection { line } => (line, header),
         IniFault::DuplicateSection { line } => (line, Cure::ONE_SECTION),
-        IniFault::DuplicateKey { line } => (line, cure_of_second(line_numbered(file.text, line))),
+        IniFault::DuplicateKey { line } => (line, Cure::ONE_KEY),
         IniFault::BadLine { line } => (line, Cure::KEY_AND_VALUE),
         IniFault::NoMemory => return notes.cut(),
     };
@@ -33,8 +30,8 @@ fn cause_of_line(text: &str, line: FileLine<'_>, fault: IniFault) -> Option<Caus
     let is_bad = matches!(fault, IniFault::BadLine { .. });
     if let Some(cause) = cause_of_signs(text, line) {
         Some(cause)
-    } else if let Some(cause) = cause_of_other_file(text) {
-        Some(cause)
+    } else if is_of_c_relay(text) {
+        Some(Cause::C_RELAY_FILE)
     } else if is_header(line.text) {
         is_bad.then_some(Cause::COMMENT_AFTER_HEADER)
     } else if is_indented(line.text) && !matches!(fault, IniFault::NoSection { .. }) {
@@ -60,10 +57,16 @@ pub(crate) fn cause_of_signs(text: &str, line: FileLine<'_>) -> Option<Cause> {
     }
 }
 
-/// The cure of a key that its section has already.
-fn cure_of_second(line: FileLine<'_>) -> Cure {
-    match key_value(line.text) {
-        Some(pair) if pair.key.eq_ignore_ascii_case("destinations") => Cure::JOIN_LISTS,
-        _ => Cure::ONE_KEY,
+/// Whether a file has the statements of carbon-c-relay.
+pub(crate) fn is_of_c_relay(text: &str) -> bool {
+    has_statement(text, "cluster ") && has_statement(text, "match ")
+}
+
+fn has_statement(text: &str, start: &str) -> bool {
+    for line in text.split('\n') {
+        if strip(line).starts_with(start) {
+            return true;
+        }
     }
+    false
 }

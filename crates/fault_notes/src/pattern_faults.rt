@@ -1,6 +1,6 @@
 //! Notes of patterns that `regex` refuses.
 
-use crate::cause::{Cause, add_cause, add_cure};
+use crate::cause::{Cause, add_cure};
 use crate::cure::Cure;
 use note_text::{FileLine, KeyLine, Notes};
 use regex::RegexBuilder;
@@ -62,29 +62,13 @@ fn add_pattern_error(
         pattern.start.saturating_add(end),
     );
     notes.add(error);
-    match cure_of_pattern(error, pattern) {
-        Some(cure) => add_cure(notes, pattern.cause, cure),
-        None => add_cause(notes, pattern.cause),
-    }
+    add_cure(notes, pattern.cause, cure_of_pattern(error, pattern))
 }
 
-/// The cure of what `regex` refuses; `None` where its own message says all that there is to say.
-fn cure_of_pattern(error: &regex::Error, pattern: PatternText<'_>) -> Option<Cure> {
+fn cure_of_pattern(error: &regex::Error, pattern: PatternText<'_>) -> Cure {
     let regex::Error::Syntax(error) = error else {
-        return Some(Cure::SMALLER_PATTERN);
+        return Cure::SMALLER_PATTERN;
     };
-    let part = pattern.text.get(error.span.start..).unwrap_or("");
-    match error.kind {
-        ErrorKind::ClassRangeInvalid
-        | ErrorKind::RepetitionCountInvalid
-        | ErrorKind::EscapeUnexpectedEof => None,
-        ErrorKind::EscapeUnrecognized if part.starts_with("\\N") => None,
-        _ => Some(cure_of_kind(error, pattern, part)),
-    }
-}
-
-/// The cure of a fault in the syntax of a pattern, of which `part` is the rest from there on.
-fn cure_of_kind(error: &regex_syntax::Error, pattern: PatternText<'_>, part: &str) -> Cure {
     match error.kind {
         ErrorKind::EscapeUnrecognized if pattern.text.contains("\\Z") => Cure::END_OF_TEXT,
         // Relay rules ignore case, and rewrite rules do not.
@@ -93,27 +77,20 @@ fn cure_of_kind(error: &regex_syntax::Error, pattern: PatternText<'_>, part: &st
             cure_of_look_around(sign.unwrap_or(""))
         }
         ErrorKind::UnsupportedLookAround => Cure::LOOK_AROUND_IN_REWRITING,
-        ErrorKind::UnsupportedBackreference if is_octal(part) => Cure::BYTE_AS_HEX,
         ErrorKind::UnsupportedBackreference if pattern.text.contains("\\0") => Cure::ZERO_BYTE,
         ErrorKind::UnsupportedBackreference => Cure::BACK_REFERENCE,
         ErrorKind::RepetitionCountDecimalEmpty
+        | ErrorKind::RepetitionCountInvalid
         | ErrorKind::DecimalInvalid
         | ErrorKind::RepetitionCountUnclosed => Cure::BRACE,
-        ErrorKind::GroupUnclosed | ErrorKind::ClassUnclosed => Cure::CLOSE_GROUP,
-        ErrorKind::GroupUnopened => Cure::BRACKET_ITSELF,
+        ErrorKind::GroupUnclosed | ErrorKind::GroupUnopened | ErrorKind::ClassUnclosed => {
+            Cure::CLOSE_GROUP
+        }
         ErrorKind::RepetitionMissing => Cure::REPEAT_SOMETHING,
         ErrorKind::FlagUnrecognized | ErrorKind::FlagUnexpectedEof => cure_of_flag(pattern.text),
         ErrorKind::NestLimitExceeded | ErrorKind::CaptureLimitExceeded => Cure::SMALLER_PATTERN,
         _ => Cure::ESCAPE,
     }
-}
-
-/// Whether a text begins with a backslash and three octal digits.
-fn is_octal(text: &str) -> bool {
-    matches!(
-        text.as_bytes(),
-        [b'\\', b'0'..=b'7', b'0'..=b'7', b'0'..=b'7', ..]
-    )
 }
 
 /// The cure of a look-around in relay rules that begins with a sign, such as `(?=`.

@@ -2,8 +2,7 @@
 
 use crate::cause::{Cause, add_cure};
 use crate::cure::Cure;
-use crate::line_faults::cause_of_signs;
-use crate::other_files::cause_of_other_file;
+use crate::line_faults::{cause_of_signs, is_of_c_relay};
 use crate::pattern_faults::{PatternText, add_bad_pattern};
 use note_text::{
     FileLine, KeyLine, Notes, TextFile, has_comment, has_key, line_numbered, rule_in, white_before,
@@ -56,8 +55,8 @@ fn cause_of_header(text: &str, line: FileLine<'_>) -> Option<Cause> {
         Some(cause)
     } else if strip(line.text) == "[relay]" {
         Some(Cause::CONFIG_FILE_AS_OTHER)
-    } else if let Some(cause) = cause_of_other_file(text) {
-        Some(cause)
+    } else if is_of_c_relay(text) {
+        Some(Cause::C_RELAY_FILE)
     } else if has_destinations(text) {
         Some(Cause::RULES_FILE_AS_REWRITE)
     } else if is_white_header(line.text) {

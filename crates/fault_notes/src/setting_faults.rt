@@ -14,9 +14,6 @@ use std::alloc::Global;
 /// The words that may be there instead, for a truth word.
 pub(crate) const TRUTH_WORDS: &str = "one of 1, yes, true, on, 0, no, false, off";
 
-/// What begins a value in quotes, straight or curly.
-const QUOTES: [char; 6] = ['"', '\'', '\u{201c}', '\u{201d}', '\u{201e}', '\u{2018}'];
-
 /// Notes of a fault in a setting: its line with carets under what is wrong, what may be there, and the cure.
 pub(crate) fn add_setting_fault(
     alloc: Global,
@@ -121,7 +118,6 @@ fn cause_of_value(fault: SettingFault, value: &str) -> Option<Cause> {
             SettingFault::Method { .. },
             "aggregated-consistent-hashing" | "fast-hashing" | "fast-aggregated-hashing",
         ) => Some(Cause::METHOD_OF_CARBON),
-        _ if value.starts_with(QUOTES) => Some(Cause::VALUE_IN_QUOTES),
         _ => comment_in(value),
     }
 }
@@ -221,8 +217,6 @@ fn cause_of_section(section: &Section) -> Option<Cause> {
         Some(Cause::INSTANCE_SECTION)
     } else if section.contains_key("destinations") {
         Some(Cause::RULES_FILE_AS_CONFIG)
-    } else if matches!(name, "[route]" | "[rewriter]" | "[aggregation]") {
-        Some(Cause::RELAY_NG_FILE)
     } else if matches!(name, "pre" | "post") {
         Some(Cause::REWRITE_FILE_AS_CONFIG)
     } else {

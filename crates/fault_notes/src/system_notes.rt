@@ -1,8 +1,6 @@
 //! Notes of what the system did not open, and of a bad line of a script.
 
-use crate::cause::{Cause, add_cure};
 use crate::cure::Cure;
-use line_text::{Moment, Point};
 use note_text::{EscapedText, Notes, Source, SourceText, line_numbered};
 use relay_base::NoMemory;
 use std::alloc::Global;
@@ -30,22 +28,13 @@ pub fn notes_of_script(alloc: Global, source: Source<'_>, line: usize) -> Result
     let mut notes = Notes::new(alloc);
     if let SourceText::Bytes(bytes) = source.text {
         if let Ok(text) = str::from_utf8(bytes) {
-            let mut cause = None;
             if line > 0 {
-                let line = line_numbered(text, line);
-                notes.add_line(source.path, line);
-                cause = cause_of_script_line(alloc, line.text);
+                notes.add_line(source.path, line_numbered(text, line));
             }
-            add_cure(&mut notes, cause, Cure::SCRIPT_LINE);
+            notes.add(Cure::SCRIPT_LINE);
         }
     }
     notes.finish()
-}
-
-/// What a line of a script is that is a datapoint.
-fn cause_of_script_line(alloc: Global, line: &str) -> Option<Cause> {
-    let read = Point::read_line(alloc, line.as_bytes(), Moment::new(0)?);
-    matches!(read, Ok(Some(_))).then_some(Cause::LINES_AS_SCRIPT)
 }
 
 /// Notes of the addresses at which the system refuses to listen, and of too few file descriptors.

@@ -12,7 +12,7 @@ use Rattle.dest_queue.specs.declared.offer.OfferFault.TheVariants.{NoSuchReader,
 use Rattle.queue_records.specs.Offers.{OffersMade, IsReaderOf, MayRefuse, after_offer, dropped_by}
 use Rattle.queue_records.specs.Takes.{TakesMade, after_take, saturating_sum}
 use Rattle.locked_queues.specs.Shares.{offered_place, dropped_place, taken_place}
-use Rattle.locked_queues.specs.LockFact.{MayHand, IsBatchOf}
+use Rattle.locked_queues.specs.LockFact.{MayHand}
 use Rattle.locked_queues.specs.DoorWithShares.{BearsOffers, BearsTakes, IsSoundDoor, IsSoundOutlet, SharesOfOffer, SharesOfTake}
 
 -- an answer or a refusal
@@ -76,9 +76,9 @@ sound_take count dest limit taken m m' old new is more sound = record {
 
 -- ---- what is handed over, and why an offer is refused
 
-pub handed_is : (size limit : ℕ) (points : List Datapoint) → IsBatchOf size limit points → MayHand size limit points
-handed_is size limit [] is = tt
-handed_is size limit (point ∷ points) is = is
+pub handed_is : (size limit : ℕ) (points : List Datapoint) (value : SizedQueue) → value.size ≡ size → points ≡ batch limit value.queue → MayHand size limit points
+handed_is size limit [] value sized is = tt
+handed_is size limit (point ∷ points) value sized is = record { value = value; sized = sized; is = is }
 
 pub refused_for : (readers : ℕ) (m : OffersMade) (reader : ℕ) (answer : Result Kept OfferFault)
     → (IsErrOf answer NoSuchReader → (¬ IsReaderOf m.receiver reader) ⊎ (readers ≤ reader)) → (IsErrOf answer Exhausted → IsReaderOf m.receiver reader)

@@ -1,3 +1,2 @@
 pub mod SharedSums
 pub mod Bearing
-pub mod Left

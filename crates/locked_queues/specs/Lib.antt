@@ -2,4 +2,3 @@ pub mod Shares
 pub mod DoorWithShares
 pub mod LockFact
 pub mod SettleFault
-pub mod Ended

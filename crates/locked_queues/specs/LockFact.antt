@@ -21,12 +21,10 @@ pub record IsLockFact (size dest : ℕ) (counts : Counts) : Type 0 where
   pub dropped : AddUp (dropped_place dest) counts.dropped
   pub taken : AddUp (taken_place dest) counts.taken
 
--- the datapoints are a batch of some queue of this size, to which its history leads
+-- the datapoints are a batch of some queue of this size
 pub record IsBatchOf (size limit : ℕ) (points : List Datapoint) : Type 0 where
   pub value : SizedQueue
   pub sized : value.size ≡ size
-  pub replays : Replays value.size value.base value.history value.queue
-  pub balanced : IsBalanced value.size value.queue
   pub is : points ≡ batch limit value.queue
 
 -- there was no queue to take from, or they are a batch of one of this size

@@ -4,11 +4,10 @@ ghost use Rattle.std.specs.Option.{option_to_list};
 ghost use Rattle.std.specs.Vec.{vec_len, vec_capacity};
 ghost use Rattle.dest_queue.specs.Step.{recorded_of};
 ghost use Rattle.queue_records.specs.Offers.{readers_each};
-ghost use Rattle.queue_records.specs.Settling.{AreUnsealed, HaveSums};
+ghost use Rattle.queue_records.specs.Settling.{Begins, AreBegun, AreUnsealed, HaveSums};
 ghost use Rattle.queue_records.specs.Records.{SettlesBy};
 ghost use Rattle.queue_records.specs.Strangers.{AreOfSet};
-ghost use Rattle.locked_queues.specs.Ended.{IsLeft, AreLeft};
-ghost use Rattle.locked_queues.specs.SettleFault.{sealed_counts, HasAllCounts};
+ghost use Rattle.locked_queues.specs.SettleFault.{sealed_counts};
 
 use crate::copies::Copies;
 use crate::locked::LockedQueue;
@@ -97,7 +96,6 @@ impl EndedSet {
             HaveSums doors.now outlets.now settled.counts.items) }
         ensures sealed_totals { IfErr result (λ fault.
             HaveSums doors.now outlets.now (sealed_counts fault)) }
-        ensures sealed_all { IfErr result (HasAllCounts (vec_len self.counts)) }
         ensures unsealed { IfOk result (λ settled. AreUnsealed settled.counts.items) }
         ensures order { IfOk result (λ settled. SettlesBy (readers_each * self.receivers)
             (map (λ history. map recorded_of history.items) settled.histories.items)
@@ -146,8 +144,7 @@ impl<B: Set> Queues<B> {
 
     /// Ends the queues. It waits for no lock, and takes no memory.
     pub fn end(self, room: EndRoom<B>) -> EndedSet
-        // The counts and the datapoints are those of queues of the set's size, to which the histories lead.
-        ensures left { AreLeft B.size (readers_each * B.receivers) result.counts.items result.points.items
+        ensures begun { AreBegun B.size (readers_each * B.receivers) result.counts.items
             (map (λ history. map recorded_of history.items) result.histories.items) }
         ensures all { (vec_len result.counts ≡ B.dests) × (vec_len result.points ≡ B.dests) }
         ensures set { (result.name ≡ B.name) × (result.receivers ≡ B.receivers) × (result.senders ≡ B.senders) }
@@ -188,16 +185,16 @@ impl<B: Set> Queues<B> {
 
 /// What the queue behind a lock leaves.
 fn end_of<B: Set>(lock: CachePadded<Mutex<LockedQueue<B>>>) -> QueueEnd
-    ensures { IsLeft B.size (readers_each * B.receivers) result.counts result.points
+    ensures { Begins B.size (readers_each * B.receivers) result.counts
         (map recorded_of result.history.items) }
 {
     lock.into_inner().into_inner().end()
 }
 
 impl<B: Set> LockedQueue<B> {
-    /// What the queue leaves.
+    /// What the queue leaves: an unsealed history replays to what was counted.
     fn end(self) -> QueueEnd
-        ensures { IsLeft B.size (readers_each * B.receivers) result.counts result.points
+        ensures { Begins B.size (readers_each * B.receivers) result.counts
             (map recorded_of result.history.items) }
     {
         let LockedQueue {

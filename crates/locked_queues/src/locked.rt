@@ -3,8 +3,9 @@ ghost use Rattle.std.specs.Prelude.{◌≡◌, ℕ, ◌+◌, ◌*◌, ◌<◌, �
 ghost use Rattle.std.specs.Arc.{arc_value};
 ghost use Rattle.dest_queue.specs.Counts.{counts_of};
 ghost use Rattle.dest_queue.specs.Balance.{IsBalanced};
+ghost use Rattle.dest_queue.specs.Queue.{batch};
 ghost use Rattle.locked_queues.specs.DoorWithShares.{SharesOfOffer, SharesOfTake};
-ghost use Rattle.locked_queues.specs.LockFact.{IsLockFact, IsBatchOf};
+ghost use Rattle.locked_queues.specs.LockFact.{IsLockFact};
 ghost use Rattle.queue_records.specs.Offers.{IsReaderOf, after_offer, readers_each};
 ghost use Rattle.dest_queue.specs.Offer.{last_count};
 ghost use Rattle.locked_queues.specs.Shares.{offered_place, dropped_place, taken_place, table_words};
@@ -87,7 +88,7 @@ impl<B: Set> LockedQueue<B> {
         requires limit { 1 ≤ limit }
         requires empty { hand.old.points ≡ [] }
         requires room { limit ≤ hand.old.room }
-        ensures handed { IsBatchOf B.size limit hand.new.points }
+        ensures handed { hand.new.points ≡ batch limit self.old.queue.queue }
         ensures count { result ≡ length hand.new.points }
         ensures few { result ≤ limit }
         ensures room { hand.new.room ≡ hand.old.room }
@@ -95,8 +96,6 @@ impl<B: Set> LockedQueue<B> {
         ensures shares { SharesOfTake self.old.dest result
             shares.old.seat.me.0.shares shares.new.seat.me.0.shares }
     {
-        let _steps = self.queue.history();
-        let _counts = self.queue.counts();
         let taken = book.take_under(&mut self.queue, DestId(self.dest), limit, hand);
         self.taken.add(common, shares, taken as u64);
         taken

@@ -7,7 +7,6 @@ use crate::datagram_loop::MOST_DATAGRAM;
 use crate::datagrams::Datagrams;
 use crate::long_words::{LastWord, is_short};
 use crate::optional_notes::OptionalNotes;
-use crate::refusal::passing;
 use crate::system_drops::SystemDrops;
 use log_lines::{BadExample, LossNotes, LossReason, ReceiverNotes};
 use mio::net::UdpSocket;
@@ -28,8 +27,7 @@ const SOCKET: Token = Token(0);
 const REPORTS_A_LOOK: u32 = 8;
 
 /// A datagram socket with its readiness. A datagram that is too long, or has a long word while memory is short, is dropped:
-/// its take ends with `Interrupted`. After an error that can pass, a take ends with `WouldBlock`, and the receiver tries again
-/// after the next wait.
+/// its take ends with `Interrupted`.
 #[derive(Drop)]
 pub struct DatagramSocket {
     alloc: Global,
@@ -183,10 +181,7 @@ impl Datagrams for DatagramSocket {
     {
         let received = self.receive_from(buffer);
         self.notes.note_receive(&received);
-        let count = match received {
-            Ok(count) => count,
-            Err(error) => return Err(passing(error)),
-        };
+        let count = received?;
         if self.is_dropped(&buffer[..count]) {
             return Err(io::Error::from(ErrorKind::Interrupted));
         }

@@ -3,14 +3,13 @@
 ghost use Rattle.std.specs.Prelude.{◌≡◌};
 
 use crate::accept::AcceptOutcome;
-use crate::refusal::is_final;
 use log_lines::{BadExample, LossCounts, ReceiverCounts, ReceiverNotes, Why};
 use mio_loops::{ReadTotals, ReadinessFault};
 use std::io;
 use std::io::{Error, ErrorKind};
 use std::sync::Arc;
 
-/// Notes events, if there is a place for them, and remembers whether the last note says that nothing can be taken.
+/// Notes events, if there is a place for them, and remembers whether the last note says that connections cannot be taken.
 #[derive(Drop)]
 pub(crate) struct OptionalNotes {
     notes: Option<Arc<ReceiverNotes>>,
@@ -41,7 +40,7 @@ impl OptionalNotes {
         }
     }
 
-    /// Connections or datagrams can be taken. It notes that only after they could not.
+    /// Connections can be taken. It notes that only after they could not.
     pub(crate) fn note_open(&mut self) {
         if !self.is_paused {
             return;
@@ -61,17 +60,13 @@ impl OptionalNotes {
         }
     }
 
-    /// A try to take a datagram ended so. After an error that can pass, the receiver tries again.
+    /// A try to take a datagram ended with this error. One that would have to wait, or was interrupted, is no failure.
     pub(crate) fn note_receive(&mut self, received: &io::Result<usize>) {
-        let Err(error) = received else {
-            self.note_open();
-            return;
-        };
-        match error.kind() {
-            ErrorKind::WouldBlock => self.note_open(),
-            ErrorKind::Interrupted => {}
-            _ if is_final(error) => self.note_failed(Why::of_error(error)),
-            _ => self.note_paused(Why::of_error(error)),
+        if let Err(error) = received {
+            match error.kind() {
+                ErrorKind::WouldBlock | ErrorKind::Interrupted => {}
+                _ => self.note_failed(Why::of_error(error)),
+            }
         }
     }
 
@@ -131,7 +126,7 @@ impl OptionalNotes {
         }
     }
 
-    /// Nothing can be taken now.
+    /// Connections cannot be taken now.
     fn note_paused(&mut self, why: Why) {
         self.is_paused = true;
         if let Some(notes) = &self.notes {

@@ -6,7 +6,7 @@ use std::io::{Error, ErrorKind};
 /// The system's number for: too many open files in the process.
 const EMFILE: i32 = 24;
 
-/// Its numbers for errors of a socket that cannot pass: a bad descriptor, a bad address, an invalid argument, no socket.
+/// Its numbers for errors of a listener that cannot pass: a bad descriptor, a bad address, an invalid argument, no socket.
 const EBADF: i32 = 9;
 
 const EFAULT: i32 = 14;
@@ -32,30 +32,11 @@ pub(crate) fn no_descriptor() -> Error {
     Error::from_raw_os_error(EMFILE)
 }
 
-/// Whether an error of a listener or of a socket of datagrams cannot pass. One that can ends no receiver: it tries again in
+/// What a listener's error means for the connections that wait. An error that can pass ends no receiver: it tries again in
 /// each later turn.
-pub(crate) fn is_final(error: &Error) -> bool {
-    matches!(
-        error.raw_os_error(),
-        Some(EBADF | EFAULT | EINVAL | ENOTSOCK)
-    )
-}
-
-/// What a receiver of datagrams is told of an error: of one that can pass, that no datagram is there now.
-pub(crate) fn passing(error: Error) -> Error {
-    if is_final(&error) || matches!(error.kind(), ErrorKind::Interrupted) {
-        error
-    } else {
-        Error::from(ErrorKind::WouldBlock)
-    }
-}
-
-/// What a listener's error means for the connections that wait.
 pub(crate) fn refused<S>(error: &Error) -> AcceptOutcome<S> {
-    if is_final(error) {
-        return AcceptOutcome::Failed;
-    }
     match error.raw_os_error() {
+        Some(EBADF | EFAULT | EINVAL | ENOTSOCK) => AcceptOutcome::Failed,
         Some(ENONET | EPROTO | ENOPROTOOPT | EOPNOTSUPP | EHOSTDOWN) => AcceptOutcome::Closed,
         _ => refused_as(error.kind()),
     }

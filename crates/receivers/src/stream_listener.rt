@@ -388,9 +388,6 @@ impl Accept for StreamListener {
 
     fn note_totals(&mut self, totals: ReadTotals) {
         self.connections.want_example(self.notes.wants_example());
-        // Those that were handed over and not taken yet are open too.
-        let mut totals = totals;
-        totals.connections = totals.connections.saturating_add(self.resumed.len() as u64);
         self.notes
             .note_totals(totals, self.connections.losses.counts());
     }

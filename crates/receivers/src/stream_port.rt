@@ -2,7 +2,6 @@
 
 use crate::connection_room::ConnectionRoom;
 use mio::net::TcpListener;
-use socket_options::notice_lost_producers;
 use std::io::ErrorKind;
 use std::sync::Arc;
 use std::{io, net};
@@ -15,9 +14,8 @@ pub struct StreamPort {
 }
 
 impl StreamPort {
-    /// The port of a listener. There is room for all connections. The system notices producers whose hosts are gone.
+    /// The port of a listener. There is room for all connections.
     pub fn new(listener: TcpListener) -> StreamPort {
-        notice_lost_producers(&listener);
         StreamPort {
             listener: net::TcpListener::from(listener),
             room: None,

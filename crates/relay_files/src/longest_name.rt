@@ -1,6 +1,6 @@
 //! The greatest length that a relay lets a name have.
 
-ghost use Rattle.std.specs.Prelude.{◌≡◌, ◌≤◌, ◌↔◌, IsSome, IfSome, IfOk};
+ghost use Rattle.std.specs.Prelude.{◌≡◌, ◌≤◌, IfOk};
 ghost use Rattle.std.specs.String.{string_bytes};
 ghost use Rattle.relay_files.specs.Extended.{longest_name_line};
 
@@ -20,10 +20,7 @@ pub struct LongestName {
 
 impl LongestName {
     /// This number of characters, if it is 1 to [`MOST_CHARACTERS`].
-    pub fn new(characters: u64) -> Option<LongestName>
-        ensures some { IsSome result ↔ ((1 ≤ characters) × (characters ≤ MOST_CHARACTERS)) }
-        ensures value { IfSome result (λ longest. longest.characters ≡ characters) }
-    {
+    pub fn new(characters: u64) -> Option<LongestName> {
         if characters == 0 || characters > MOST_CHARACTERS as u64 {
             return None;
         }
@@ -34,8 +31,7 @@ impl LongestName {
 
     /// The number of characters.
     pub fn characters(self) -> usize
-        ensures value { result ≡ self.characters }
-        ensures range { (1 ≤ result) × (result ≤ MOST_CHARACTERS) }
+        ensures { (1 ≤ result) × (result ≤ MOST_CHARACTERS) }
     {
         self.characters
     }

@@ -46,16 +46,13 @@ impl SpoolWait {
     }
 }
 
-/// Whether the file of a destination, which exists, has all that is left for it, or takes no more. One that has nothing left, and
-/// no earlier file, needs no new one.
+/// Whether the file of a destination, which exists, has all that is left for it, or takes no more.
 fn is_done<B: Set, R: Wait>(rt: &R, unsent: &Unsent<'_, B>, place: usize) -> bool
     requires place { place < B.dests }
 {
     match unsent.spool_notes_at(place) {
         Some(notes) if notes.failure().is_some() => true,
-        Some(notes) => {
-            (notes.is_spooling() || !notes.is_behind()) && unsent.left_at(rt, place) == 0
-        }
+        Some(notes) => notes.is_spooling() && unsent.left_at(rt, place) == 0,
         None => true,
     }
 }

@@ -5,7 +5,6 @@ use log_lines::Why;
 use mio::net::TcpStream;
 use mio_loops::{Readiness, Token};
 use relay_base::DestId;
-use socket_options::notice_lost_store;
 use std::io::Write;
 use std::net::{Net, SocketAddr};
 
@@ -51,7 +50,6 @@ impl Attempt {
         stream
             .set_nodelay(true)
             .map_err(|error| Why::of_error(&error))?;
-        notice_lost_store(&stream);
         readiness
             .add_stream(&mut stream, Token(dest.0))
             .map_err(|_| Why::NoReadiness)?;

@@ -1,5 +1,5 @@
 -- Lemmas on lines that go out by one connection after another.
-use Rattle.std.proofs.Common.{◌≡◌, ℕ, ◌+◌, ◌-◌, ◌^◌, ◌<◌, ◌≤◌, List, [], ◌∷◌, ◌++◌, length, take, drop, flat_map, Option, Some, None, IfSome, refl, ap, sym, subst, ◌∙◌, append_assoc, append-nil, drop_of_length-le, arith}
+use Rattle.std.proofs.Common.{◌≡◌, ℕ, ◌+◌, ◌-◌, ◌^◌, ◌<◌, ◌≤◌, List, [], ◌∷◌, ◌++◌, length, take, drop, flat_map, Option, Some, None, IfSome, refl, ap, sym, subst, ◌∙◌, append_assoc, append-nil, arith}
 use Rattle.std.proofs.lemmas.List.{drop-take, drop-drop, length-append, length-take, take_all, take-append-drop}
 use Rattle.std.specs.Io.{StartsWith}
 use Rattle.std.specs.Io.KnownBytes.{Appends}
@@ -7,8 +7,7 @@ use Rattle.relay_base.proofs.Growth.{Appends-then}
 use Rattle.backlog.specs.Lines.{whole_lines, left_by}
 use Rattle.backlog.specs.Laws.{left_after, TookWhatWasLeft, NothingIsLostLaw, LeftFromPlaceLaw}
 use Rattle.backlog.specs.Place.{Place, place_after}
-use Rattle.backlog.proofs.LinesLemmas.{lines_then-left}
-use Rattle.spool.specs.Held.{left_of, GotPart, IsUnderWay, GoesOn, Ends, StopsAtLine}
+use Rattle.spool.specs.Held.{left_of, GotPart, IsUnderWay, GoesOn, Ends}
 
 -- ---- lists
 
@@ -113,31 +112,6 @@ ends-by lost held end cursor after before gained passed on = λ over taken way.
       whole = ap (λ (l : List ℕ). flat_map whole_lines over ++ l) rest ∙ lost over lines got.way.earlier;
     }
 
--- ---- it stops at the end of a line
-
-whole-all : (text : List ℕ) → length (whole_lines text) ≡ length text → whole_lines text ≡ text
-whole-all text long =
-    sym (append-nil (whole_lines text))
-    ∙ ap (λ (l : List ℕ). whole_lines text ++ l) (sym (drop_of_length-le text (omega (arith, long))))
-    ∙ ap (λ (n : ℕ). whole_lines text ++ drop n text) (sym long)
-    ∙ lines_then-left text text (take_all (length text) text (omega arith))
-
-as-long : (start next base lines all : ℕ) → start ≡ next → start ≡ base + lines → next ≡ base + all → lines ≡ all
-as-long start next base lines all at first last = omega (arith, at, first, last)
-
-stops-by : (lines : List ℕ) (cursor after : Place) (before gained : Option (List ℕ)) → after.start ≡ after.next → GoesOn lines cursor after before gained → StopsAtLine lines cursor before gained
-stops-by lines cursor after before gained at on = λ over taken way.
-    let got = on over taken way in
-    let base = length (flat_map whole_lines over) in
-    let all = taken ++ got.more in
-    let first : after.start ≡ base + length (whole_lines all) = ap (λ (p : Place). p.start) got.way.place in
-    let last : after.next ≡ base + length all = ap (λ (p : Place). p.next) got.way.place in
-    record {
-      more = got.more;
-      output = got.output;
-      whole = whole-all all (as-long after.start after.next base (length (whole_lines all)) (length all) at first last);
-    }
-
 -- ---- the next connection
 
 took-one_more : (over : List (List ℕ)) (taken lines : List ℕ) → TookWhatWasLeft over lines → StartsWith (left_after over lines) taken → TookWhatWasLeft (over ++ taken ∷ []) lines
@@ -166,13 +140,6 @@ pub text-ends : NothingIsLostLaw → (text : Option (List ℕ)) (end : ℕ) (cur
 text-ends lost None end cursor after before gained passed on = on
 text-ends lost (Some held) end cursor after before gained passed on = ends-by lost held end cursor after before gained passed on
 
-pub text-stops : (text : Option (List ℕ)) (end : ℕ) (cursor after : Place) (before gained : Option (List ℕ)) → after.start ≡ after.next → IfSome text (λ held. GoesOn (take end held) cursor after before gained) → IfSome text (λ held. StopsAtLine (take end held) cursor before gained)
-text-stops None end cursor after before gained at on = on
-text-stops (Some held) end cursor after before gained at on = stops-by (take end held) cursor after before gained at on
-
 -- the same, where the connection had been kept
-pub text-stops_kept : {W : Type 0} (contents : W → Option (List ℕ)) (text : Option (List ℕ)) (end : ℕ) (cursor : Place) (kept : Option W) (had sink : W) → kept ≡ Some had → IfSome text (λ held. StopsAtLine (take end held) cursor (contents had) (contents sink)) → IfSome text (λ held. IfSome kept (λ had. StopsAtLine (take end held) cursor (contents had) (contents sink)))
-text-stops_kept {W = W} contents text end cursor kept had sink is stops = subst (λ (k : Option W). IfSome text (λ held. IfSome k (λ had. StopsAtLine (take end held) cursor (contents had) (contents sink)))) (sym is) stops
-
 pub text-ends_kept : {W : Type 0} (contents : W → Option (List ℕ)) (text : Option (List ℕ)) (end : ℕ) (cursor : Place) (kept : Option W) (had sink : W) → kept ≡ Some had → IfSome text (λ held. Ends (take end held) cursor (contents had) (contents sink)) → IfSome text (λ held. IfSome kept (λ had. Ends (take end held) cursor (contents had) (contents sink)))
 text-ends_kept {W = W} contents text end cursor kept had sink is ends = subst (λ (k : Option W). IfSome text (λ held. IfSome k (λ had. Ends (take end held) cursor (contents had) (contents sink)))) (sym is) ends

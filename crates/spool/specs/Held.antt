@@ -67,15 +67,3 @@ abbrev pub Ends : List ℕ → Place → Option (List ℕ) → Option (List ℕ)
 Ends lines cursor before gained =
     (over : List (List ℕ)) (taken : List ℕ) → IsUnderWay lines over taken cursor
     → TookRest lines over taken before gained
-
--- this connection took whole lines, and nothing else
-pub record TookWhole (taken : List ℕ) (before gained : Option (List ℕ)) : Type 0 where
-  pub more : List ℕ
-  pub output : Appends before gained more
-  pub whole : whole_lines (taken ++ more) ≡ taken ++ more
-
--- lines that were under way stop at the end of one, on the same connection
-abbrev pub StopsAtLine : List ℕ → Place → Option (List ℕ) → Option (List ℕ) → Type 0
-StopsAtLine lines cursor before gained =
-    (over : List (List ℕ)) (taken : List ℕ) → IsUnderWay lines over taken cursor
-    → TookWhole taken before gained

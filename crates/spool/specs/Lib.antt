@@ -1,4 +1,3 @@
 pub mod Held
 pub mod Turn
 pub mod FileConnection
-pub mod Pieces

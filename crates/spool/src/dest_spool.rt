@@ -2,7 +2,7 @@
 
 use crate::copy::copy_part;
 use crate::file_connection::FileConnection;
-use crate::file_names::{FileNames, is_free};
+use crate::file_names::FileNames;
 use crate::held_text::end_of_lines;
 use crate::limited_file::LimitedFile;
 use crate::spool_disk::SpoolDisk;
@@ -35,22 +35,18 @@ struct HeldFile {
 }
 
 /// What is there under the name of a destination's file.
-#[derive(Drop)]
 enum FoundFile {
     /// Nothing.
     Nothing,
     /// A file of this length that has these whole lines.
     Lines { held: HeldFile, length: u64 },
-    /// What has no whole line: such a file, or what is none.
+    /// A file without a whole line, or what cannot be read.
     NoLines,
-    /// What the system does not let the relay read now.
-    Unreadable(io::Error),
 }
 
 impl DestSpool {
-    /// The files of a destination in a folder, and what an earlier run left there. What was read and has no whole line is put
-    /// aside; the news say so, and when behind the last whole line something is left, and when a file cannot be read. Refuses if
-    /// out of memory.
+    /// The files of a destination in a folder, and what an earlier run left there. What has no whole line is put aside; the
+    /// news say so, and when behind the last whole line something is left. Refuses if out of memory.
     pub fn open<D: SpoolDisk>(
         disk: &D,
         alloc: Global,
@@ -70,15 +66,9 @@ impl DestSpool {
                 Ok(DestSpool::with_held(names, Some(held), has_begun_line))
             }
             FoundFile::NoLines => {
-                tell_no_lines(news, &names, move_aside(disk, &names, names.held()))?;
+                let _ = disk.give_name(names.held(), names.aside());
+                tell_no_lines(news, &names)?;
                 Ok(DestSpool::with_held(names, None, false))
-            }
-            FoundFile::Unreadable(error) => {
-                let told = tell_unreadable(news, &names, &error);
-                drop(error);
-                told?;
-                // A new file puts it aside, if it is still there then.
-                Ok(DestSpool::with_held(names, None, true))
             }
         }
     }
@@ -137,11 +127,11 @@ impl DestSpool {
     fn end_held<D: SpoolDisk>(&mut self, disk: &D) {
         self.held = None;
         // One that cannot go is sent again after the next start.
-        if self.has_begun_line {
-            let _ = move_aside(disk, &self.names, self.names.held());
+        let _ = if self.has_begun_line {
+            disk.give_name(self.names.held(), self.names.aside())
         } else {
-            let _ = disk.remove(self.names.held());
-        }
+            disk.remove(self.names.held())
+        };
     }
 
     /// Whether the earlier file has lines that a connection took, so that what it still holds is to be written anew.
@@ -159,9 +149,6 @@ impl DestSpool {
         limit: Option<u64>,
         notes: Option<&SpoolNotes>,
     ) -> io::Result<LimitedFile<File>> {
-        if !is_free(disk, self.names.new_file()) {
-            drop(move_aside(disk, &self.names, self.names.new_file())?);
-        }
         let mut new = LimitedFile::new(disk.make_new(self.names.new_file())?, limit);
         if let Some(held) = &self.held {
             let start = held.cursor.start();
@@ -183,11 +170,10 @@ impl DestSpool {
         }
         file.sync_all()?;
         if self.has_begun_line {
-            let _ = move_aside(disk, &self.names, self.names.held());
+            let _ = disk.give_name(self.names.held(), self.names.aside());
         }
         disk.give_name(self.names.new_file(), self.names.held())?;
-        // The lines are in the file, whether the system answers for its name or not.
-        let _ = disk.sync_folder(self.names.folder());
+        disk.sync_folder(self.names.folder())?;
         self.hold(file, end);
         Ok(())
     }
@@ -212,127 +198,49 @@ impl DestSpool {
     }
 }
 
-/// What is there at a path. It opens regular files alone: a link is not followed, and a FIFO not waited for.
+/// What is there at a path.
 fn found_at<D: SpoolDisk>(disk: &D, path: &str, piece: &mut [u8]) -> FoundFile {
-    match disk.look_at(path) {
-        Ok(named) if named.is_file() => match lines_at(disk, path, piece) {
-            Ok(found) => found,
-            Err(error) => FoundFile::Unreadable(error),
-        },
-        Ok(_) => FoundFile::NoLines,
-        Err(error) => match error.kind() {
-            ErrorKind::NotFound | ErrorKind::InvalidFilename => {
-                drop(error);
-                FoundFile::Nothing
-            }
-            _ => FoundFile::Unreadable(error),
-        },
-    }
-}
-
-/// The lines of the file at a path.
-fn lines_at<D: SpoolDisk>(disk: &D, path: &str, piece: &mut [u8]) -> io::Result<FoundFile> {
-    let file = disk.open_held(path)?;
-    let length = file.metadata()?.len();
-    let end = end_of_lines(&file, length, piece)?;
-    if end == 0 {
+    let file = match disk.open_held(path) {
+        Ok(file) => file,
+        Err(error) => {
+            return match error.kind() {
+                ErrorKind::NotFound | ErrorKind::InvalidFilename => FoundFile::Nothing,
+                _ => FoundFile::NoLines,
+            };
+        }
+    };
+    let Some((length, end)) = extent_of(&file, piece) else {
         drop(file);
-        return Ok(FoundFile::NoLines);
-    }
-    Ok(FoundFile::Lines {
+        return FoundFile::NoLines;
+    };
+    FoundFile::Lines {
         held: HeldFile {
             file,
             end,
             cursor: Cursor::new(),
         },
         length,
-    })
-}
-
-/// Gives a file a free name. Returns that.
-fn move_aside<D: SpoolDisk>(disk: &D, names: &FileNames, path: &str) -> io::Result<String> {
-    let aside = names.free_aside(disk)?;
-    match disk.give_name(path, aside.as_str()) {
-        Ok(()) => Ok(aside),
-        Err(error) => {
-            drop(aside);
-            Err(error)
-        }
     }
 }
 
-/// Keeps the new file that a stop left which was killed, if there is one: it is the file of the destination, if there is none, and
-/// is put aside otherwise. The news say so. No relay is writing it.
-pub(crate) fn take_left_new<D: SpoolDisk>(
-    disk: &D,
-    names: &FileNames,
-    news: &mut String,
-) -> Result<(), AllocError> {
-    let (new, held) = (names.new_file(), names.held());
-    if disk.look_at(new).is_err() {
-        return Ok(());
-    }
-    if is_free(disk, held) {
-        let _ = disk.give_name(new, held);
-        return write!(
-            news,
-            "spool: {new}: a relay was killed while it wrote this; it is {held} now\n"
-        );
-    }
-    match move_aside(disk, names, new) {
-        Ok(aside) => {
-            let told = write!(
-                news,
-                "spool: {new}: a relay was killed while it wrote this; it is {aside} now, with lines of {held}\n"
-            );
-            drop(aside);
-            told
-        }
-        Err(error) => {
-            drop(error);
-            Ok(())
-        }
-    }
+/// The length of a file, and where its whole lines end, if it has some.
+fn extent_of(file: &File, piece: &mut [u8]) -> Option<(u64, u64)> {
+    let length = file.metadata().ok()?.len();
+    let end = end_of_lines(file, length, piece).ok()?;
+    if end == 0 { None } else { Some((length, end)) }
 }
 
 /// The news of a file with something behind its whole lines.
 fn tell_begun_line(news: &mut String, names: &FileNames) -> Result<(), AllocError> {
-    let held = names.held();
+    let (held, aside) = (names.held(), names.aside());
     write!(
         news,
-        "spool: {held}: the last line has no end; it stays in {held}~aside\n"
+        "spool: {held}: the last line has no end; it stays in {aside}\n"
     )
 }
 
-/// The news of what has no whole line, and was put aside under this name, if it could be.
-fn tell_no_lines(
-    news: &mut String,
-    names: &FileNames,
-    aside: io::Result<String>,
-) -> Result<(), AllocError> {
-    let held = names.held();
-    match aside {
-        Ok(aside) => {
-            let told = write!(news, "spool: {held}: no lines; it is {aside} now\n");
-            drop(aside);
-            told
-        }
-        Err(error) => {
-            drop(error);
-            write!(news, "spool: {held}: no lines\n")
-        }
-    }
-}
-
-/// The news of a file that cannot be read.
-fn tell_unreadable(
-    news: &mut String,
-    names: &FileNames,
-    error: &io::Error,
-) -> Result<(), AllocError> {
-    let held = names.held();
-    write!(
-        news,
-        "spool: {held}: cannot read: {error}; it stays for the next start\n"
-    )
+/// The news of a file without a whole line.
+fn tell_no_lines(news: &mut String, names: &FileNames) -> Result<(), AllocError> {
+    let (held, aside) = (names.held(), names.aside());
+    write!(news, "spool: {held}: no lines; it is {aside} now\n")
 }

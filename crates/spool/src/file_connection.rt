@@ -1,11 +1,11 @@
 //! The connection that a file goes out on.
 
 ghost use Rattle.std.specs.Prelude.{◌≡◌, ◌≤◌, ◌↔◌, ℕ, List, [], ◌∷◌, ◌++◌, take, true, false, None, Some, IfSome, IsSome, IsTrue};
-ghost use Rattle.spool.specs.Held.{Ends, GoesOn, IsUnderWay, StopsAtLine};
-ghost use Rattle.spool.specs.Turn.{IfGivenUp, IfOver};
+ghost use Rattle.spool.specs.Held.{Ends, GoesOn, IsUnderWay};
+ghost use Rattle.spool.specs.Turn.{IfOver};
 
 use crate::held_text::HeldText;
-use crate::pieces::{SendOutcome, send_lines};
+use crate::pieces::{SendOutcome, send_pieces};
 use crate::turn::Turn;
 use backlog::{Cursor, laws};
 use std::io::Write;
@@ -100,8 +100,7 @@ impl<W: Drop> FileConnection<W> {
 }
 
 impl<W: Write + Drop> FileConnection<W> {
-    /// Sends a piece of a file, whose whole lines end at `end`, and gives the connection out once it took all of these, or once
-    /// the file cannot be read, if that is between two lines.
+    /// Sends some of a file, whose whole lines end at `end`, and gives the connection out once it took all of these.
     pub(crate) fn send<F: HeldText>(
         &mut self,
         file: &F,
@@ -119,11 +118,6 @@ impl<W: Write + Drop> FileConnection<W> {
             Ends (take end held) cursor.old (W.contents had) (W.contents sink)))) }
         // and never before the cursor is there.
         ensures over { IfOver result (λ _. end ≤ cursor.new.next) }
-        // If the file cannot be read it is given out only at the end of a line.
-        ensures given_up { IfGivenUp result (λ sink. IfSome (F.text file.now) (λ held.
-            IfSome self.old.sink (λ had.
-            StopsAtLine (take end held) cursor.old (W.contents had) (W.contents sink)))) }
-        ensures at_line { IfGivenUp result (λ _. cursor.new.start ≡ cursor.new.next) }
         // One that takes no more gets nothing.
         ensures blocked { self.old.blocked ≡ true → self.new ≡ self.old }
         ensures none { self.old.sink ≡ None → (self.new ≡ self.old) × IfOver result (λ _. ⊥) }
@@ -136,15 +130,9 @@ impl<W: Write + Drop> FileConnection<W> {
             return Turn::Kept;
         };
         let mut sink = sink;
-        match send_lines(file, end, cursor, &mut sink, piece) {
+        match send_pieces(file, end, cursor, &mut sink, piece) {
             SendOutcome::All => Turn::Over(sink),
-            SendOutcome::Unreadable => {
-                if is_between_lines(cursor) {
-                    return Turn::GivenUp(sink);
-                }
-                self.sink = Some(sink);
-                Turn::Lost
-            }
+            SendOutcome::Unreadable => Turn::GivenUp(sink),
             SendOutcome::Lost => {
                 self.sink = Some(sink);
                 Turn::Lost
@@ -160,11 +148,4 @@ impl<W: Write + Drop> FileConnection<W> {
             }
         }
     }
-}
-
-/// Whether what a connection took so far of a text are whole lines.
-fn is_between_lines(cursor: &Cursor) -> bool
-    ensures { IsTrue result ↔ cursor.now.start ≡ cursor.now.next }
-{
-    cursor.start() == cursor.next()
 }

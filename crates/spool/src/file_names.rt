@@ -1,11 +1,8 @@
 //! The names of a destination's files.
 
-use crate::spool_disk::SpoolDisk;
 use conf_text::Dest;
 use relay_base::NoMemory;
 use std::alloc::Global;
-use std::io;
-use std::io::ErrorKind;
 
 /// The file of a folder that the relay locks that uses it. No destination's name has its sign `~`.
 pub const LOCK: &str = "~lock";
@@ -19,9 +16,6 @@ const NEW: &str = "~new";
 /// What is behind it in that of a file that is put aside.
 const ASIDE: &str = "~aside";
 
-/// How many names a destination has for what is put aside.
-const MOST_ASIDE: usize = 1_000;
-
 /// The greatest number of bytes that the name of a file may have.
 const LONGEST_NAME: usize = 255;
 
@@ -32,23 +26,23 @@ pub fn fits_name(alloc: Global, dest: &Dest) -> Result<bool, NoMemory> {
 }
 
 /// The paths of a destination's files in a folder: that of the file that holds its lines, as DESTINATIONS names it; that of
-/// one which is written; and those under which a file is put aside.
+/// one which is written; and that under which a file is put aside.
 #[derive(Drop)]
 pub struct FileNames {
-    alloc: Global,
     folder: String,
     held: String,
     new: String,
+    aside: String,
 }
 
 impl FileNames {
     /// The paths of a destination's files in a folder. Refuses if out of memory.
     pub fn new(alloc: Global, folder: &str, dest: &Dest) -> Result<FileNames, NoMemory> {
         Ok(FileNames {
-            alloc,
             folder: String::from_str(alloc, folder)?,
             held: format!(in alloc; "{folder}/{dest}")?,
             new: format!(in alloc; "{folder}/{dest}{NEW}")?,
+            aside: format!(in alloc; "{folder}/{dest}{ASIDE}")?,
         })
     }
 
@@ -67,33 +61,8 @@ impl FileNames {
         self.new.as_str()
     }
 
-    /// A path for what is put aside, at which nothing is: `FILE~aside`, or with a number behind that.
-    pub(crate) fn free_aside<D: SpoolDisk>(&self, disk: &D) -> io::Result<String> {
-        for number in 0..MOST_ASIDE {
-            let path = self.aside(number)?;
-            if is_free(disk, path.as_str()) {
-                return Ok(path);
-            }
-            drop(path);
-        }
-        Err(io::Error::from(ErrorKind::AlreadyExists))
-    }
-
-    /// The path of this number for what is put aside.
-    fn aside(&self, number: usize) -> io::Result<String> {
-        let (alloc, held) = (self.alloc, self.held());
-        if number == 0 {
-            Ok(format!(in alloc; "{held}{ASIDE}")?)
-        } else {
-            Ok(format!(in alloc; "{held}{ASIDE}.{number}")?)
-        }
-    }
-}
-
-/// Whether nothing is there at a path.
-pub(crate) fn is_free<D: SpoolDisk>(disk: &D, path: &str) -> bool {
-    match disk.look_at(path) {
-        Ok(_) => false,
-        Err(error) => error.kind() == ErrorKind::NotFound,
+    /// The name of a file that is put aside.
+    pub fn aside(&self) -> &str {
+        self.aside.as_str()
     }
 }

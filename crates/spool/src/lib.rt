@@ -27,7 +27,7 @@ pub use file_connection::FileConnection;
 pub use file_names::{FileNames, LOCK, TRIAL, fits_name};
 pub use file_sink::FileSink;
 pub use held_text::{HeldText, end_of_lines};
-pub use pieces::{SendOutcome, send_piece};
+pub use pieces::{SendOutcome, send_piece, send_pieces};
 pub use spool_disk::SpoolDisk;
 pub use spool_files::{SpoolFiles, is_of_no_destination, open_all, open_others};
 pub use spool_notes::{SpoolFailure, SpoolNotes};

@@ -1,12 +1,14 @@
 //! A file is sent to a connection, a piece at a time.
 
-ghost use Rattle.std.specs.Prelude.{◌≡◌, ◌≤◌, length, take, drop, IfSome};
+ghost use Rattle.std.specs.Prelude.{◌≡◌, ◌≤◌, take, IfSome};
 ghost use Rattle.spool.specs.Held.{GoesOn, GotPart, left_of};
-ghost use Rattle.spool.specs.Pieces.{IfBytes};
 
 use crate::held_text::HeldText;
 use backlog::{Cursor, laws};
 use std::io::{ErrorKind, Write};
+
+/// How many pieces are sent in one turn at most.
+const MOST_PIECES: usize = 16;
 
 /// What became of a piece.
 #[derive(Clone, Copy)]
@@ -19,12 +21,12 @@ pub enum SendOutcome {
     Blocked,
     /// The connection is lost.
     Lost,
-    /// The file cannot be read, or ends before its lines do.
+    /// The file cannot be read.
     Unreadable,
 }
 
-/// Sends a piece of a file, whose whole lines end at `end`, to a connection, where others may have taken lines before.
-pub(crate) fn send_lines<F: HeldText, W: Write>(
+/// Sends some pieces of a file, whose whole lines end at `end`, to a connection. Returns what became of the last one.
+pub fn send_pieces<F: HeldText, W: Write>(
     file: &F,
     end: u64,
     cursor: &mut Cursor,
@@ -34,10 +36,17 @@ pub(crate) fn send_lines<F: HeldText, W: Write>(
     ensures sent { IfSome (F.text file.now) (λ held.
         GoesOn (take end held) cursor.old cursor.new (W.contents sink.old) (W.contents sink.new)) }
     ensures all { result ≡ SendOutcome.All → end ≤ cursor.new.next }
+    ensures over { end ≤ cursor.old.next → result ≡ SendOutcome.All }
 {
     laws::nothing_is_lost();
     laws::left_from_place();
-    send_piece(file, end, cursor, sink, piece)
+    for _ in 0..MOST_PIECES {
+        match send_piece(file, end, cursor, sink, piece) {
+            SendOutcome::Some => {}
+            sent => return sent,
+        }
+    }
+    SendOutcome::Some
 }
 
 /// Sends what a file, whose whole lines end at `end`, has for a connection next: reads a piece, and offers it in one write.
@@ -61,34 +70,9 @@ pub fn send_piece<F: HeldText, W: Write>(
         return SendOutcome::All;
     }
     let most = (end - next).min(piece.len() as u64) as usize;
-    match read_piece(file, next, &mut piece[..most]) {
-        PieceRead::Bytes(count) => write_piece(cursor, sink, &piece[..count]),
-        PieceRead::Interrupted => SendOutcome::Some,
-        PieceRead::Failed => SendOutcome::Unreadable,
-    }
-}
-
-/// What became of reading a piece.
-#[derive(Clone, Copy)]
-enum PieceRead {
-    /// So many bytes were read, at least one.
-    Bytes(usize),
-    /// None: a signal came first.
-    Interrupted,
-    /// None: the system refuses it, or the file has no more.
-    Failed,
-}
-
-/// Reads bytes from a place on.
-fn read_piece<F: HeldText>(file: &F, place: u64, piece: &mut [u8]) -> PieceRead
-    ensures { IfBytes result (λ count. (count ≤ length piece.new)
-        × IfSome (F.text file.now) (λ held. take count piece.new ≡ take count (drop place held))) }
-{
-    match file.read_from(place, piece) {
-        Ok(0) => PieceRead::Failed,
-        Ok(count) => PieceRead::Bytes(count),
-        Err(error) if error.kind() == ErrorKind::Interrupted => PieceRead::Interrupted,
-        Err(_) => PieceRead::Failed,
+    match file.read_from(next, &mut piece[..most]) {
+        Ok(count) if count > 0 => write_piece(cursor, sink, &piece[..count]),
+        _ => SendOutcome::Unreadable,
     }
 }
 

@@ -2,7 +2,7 @@
 
 use relay_base::add;
 use std::alloc::Global;
-use std::fs::{File, Metadata, OpenOptions};
+use std::fs::{File, OpenOptions};
 use std::os::unix::fs::OpenOptionsExt;
 use std::{fs, io};
 
@@ -13,9 +13,6 @@ const OWNER_ALONE: u32 = 0o600;
 ///
 /// It is a trait of its own, beside the kit's `Files`, since a thread's bounds may have no types in them.
 pub trait SpoolDisk {
-    /// What is there at a path; of a link, the link itself.
-    fn look_at(&self, path: &str) -> io::Result<Metadata>;
-
     /// Opens a file to read it.
     fn open_held(&self, path: &str) -> io::Result<File>;
 
@@ -36,10 +33,6 @@ pub trait SpoolDisk {
 }
 
 impl SpoolDisk for HostRuntime {
-    fn look_at(&self, path: &str) -> io::Result<Metadata> {
-        fs::symlink_metadata(self, path)
-    }
-
     fn open_held(&self, path: &str) -> io::Result<File> {
         File::open(self, path)
     }

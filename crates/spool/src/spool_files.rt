@@ -1,7 +1,7 @@
 //! The files of all destinations.
 
-use crate::dest_spool::{DestSpool, take_left_new};
-use crate::file_names::{FileNames, fits_name};
+use crate::dest_spool::DestSpool;
+use crate::file_names::fits_name;
 use crate::spool_disk::SpoolDisk;
 use conf_text::Dest;
 use relay_base::{NoMemory, add};
@@ -28,7 +28,6 @@ pub fn open_all<D: SpoolDisk>(
 ) -> Result<SpoolFiles, NoMemory> {
     let mut news = String::new(alloc);
     tell_strangers(disk, alloc, folder, dests, &mut news)?;
-    take_left(disk, alloc, folder, dests, &mut news)?;
     open_each(disk, alloc, folder, dests, &[], news)
 }
 
@@ -70,23 +69,6 @@ fn open_each<D: SpoolDisk>(
         dests: spools,
         news,
     })
-}
-
-/// Keeps what stops left that were killed while they wrote the files of these destinations. The news name it.
-fn take_left<D: SpoolDisk>(
-    disk: &D,
-    alloc: Global,
-    folder: &str,
-    dests: &[Dest],
-    news: &mut String,
-) -> Result<(), NoMemory> {
-    for dest in dests {
-        let names = FileNames::new(alloc, folder, dest)?;
-        let told = take_left_new(disk, &names, news);
-        drop(names);
-        told?;
-    }
-    Ok(())
 }
 
 /// The news of a destination whose name is too long for a file.

@@ -12,4 +12,6 @@ returns-clause-bears g c =
     (sound_take g.B.Set.dests c.deref_mut.result.now.dest c.args.limit c.take.result old.book c.take.new.book old.shares.seat.me.0.shares c.take.new.shares.seat.me.0.shares c.take.ensures.taken c.take.ensures.shares c.self.invariant.0).bears
 
 pub returns-clause-handed : goal.returns-clause-handed
-returns-clause-handed g c = handed_is g.B.Set.size c.args.limit _ c.take.ensures.handed
+returns-clause-handed g c =
+    let locked = c.deref_mut.result.now in
+    handed_is g.B.Set.size c.args.limit _ locked.queue locked.sized c.take.ensures.handed

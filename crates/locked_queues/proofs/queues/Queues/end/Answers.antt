@@ -1,6 +1,6 @@
 use Rattle.std.proofs.Common.{length, ap, ◌∙◌, arith}
 use Rattle.std.proofs.lemmas.List.{map-append}
-use Rattle.locked_queues.proofs.Left.{left_more}
+use Rattle.queue_records.proofs.Places.{begun_more}
 use Rattle.locked_queues.proofs.queues.Queues.end.Goals as goal
 
 -- one more queue has left what it had
@@ -17,7 +17,7 @@ loop-lock-preserved g c =
     let more_freed = c.push_reserved-in-loop-lock-2.ensures.len in
     let more_points = c.push_reserved-in-loop-lock-3.ensures.len in
     record {
-      left = rw (c.push_reserved.ensures.items, c.push_reserved-in-loop-lock.ensures.items, c.push_reserved-in-loop-lock-3.ensures.items, map-append) (left_more _ _ _ _ _ _ _ _ before.left c.end_of-end.ensures);
+      begun = rw (c.push_reserved.ensures.items, c.push_reserved-in-loop-lock.ensures.items, map-append) (begun_more _ _ _ _ _ _ before.begun c.end_of-end.ensures);
       counts = omega (arith, counts, fewer, more_counts);
       histories = omega (arith, histories, fewer, more_histories);
       freed = omega (arith, freed, fewer, more_freed);
