@@ -4,7 +4,6 @@ import json
 import os
 import re
 import subprocess
-import threading
 import unittest
 
 from cases.status import Serving
@@ -147,15 +146,6 @@ class Probes(Serving):
         store, = self.stores(1, reads=False, room=4096)
         with self.serving([f"127.0.0.1:{store.port}"], ("--drain", "3600"), MAX_QUEUE_SIZE="10000") as relay:
             self.assertEqual(self.statuses(relay), [200, 200])
-            relay.lines(b"%s 1 1\n" % (b"a" * 2000) * 9000)
-            self.wait_for(lambda: self.json(relay)["destinations"][0]["taken"] > 0, "some was taken")
-            self.wait_for(store.is_connected, "the store is connected")
-            reads_on = threading.Event()
-            reader = threading.Thread(target=store.read_slowly, args=(0.05, reads_on), daemon=True)
-            reader.start()
-            relay.command(b"stop")
-            self.wait_for(lambda: self.statuses(relay) == [503, 200], "it drains")
-            reads_on.set()
-            reader.join(harness.LIMIT)
-            store.read_on()
+            with self.draining(relay, store):
+                self.wait_for(lambda: self.statuses(relay) == [503, 200], "it drains")
             self.assertEqual(relay.end().status, 0)

@@ -60,6 +60,21 @@ class Serving(WithRelays):
         self.assertEqual((status, headers["content-type"]), (200, "application/json"))
         return json.loads(text)
 
+    @contextlib.contextmanager
+    def draining(self, relay, store):
+        """A relay that was told to stop, with datapoints for a store that reads slowly until the block ends."""
+        relay.lines(b"%s 1 1\n" % (b"a" * 2000) * 9000)
+        self.wait_for(lambda: self.json(relay)["destinations"][0]["taken"] > 0, "some was taken")
+        self.wait_for(store.is_connected, "the store is connected")
+        reads_on = threading.Event()
+        reader = threading.Thread(target=store.read_slowly, args=(0.05, reads_on), daemon=True)
+        reader.start()
+        relay.command(b"stop")
+        yield
+        reads_on.set()
+        reader.join(LIMIT)
+        store.read_on()
+
     def metrics(self, relay):
         status, headers, text = self.ask(relay, "/metrics")
         self.assertEqual(status, 200)
@@ -315,19 +330,10 @@ class Status(Serving):
         store, = self.stores(1, reads=False, room=4096)
         with self.serving([f"127.0.0.1:{store.port}"], ("--drain", "3600"), MAX_QUEUE_SIZE="10000") as relay:
             self.assertEqual(self.ask(relay, "/healthz")[::2], (200, "up\n"))
-            relay.lines(b"%s 1 1\n" % (b"a" * 2000) * 9000)
-            self.wait_for(lambda: self.json(relay)["destinations"][0]["taken"] > 0, "some was taken")
-            self.wait_for(store.is_connected, "the store is connected")
-            reads_on = threading.Event()
-            reader = threading.Thread(target=store.read_slowly, args=(0.05, reads_on), daemon=True)
-            reader.start()
-            relay.command(b"stop")
-            self.wait_for(lambda: self.ask(relay, "/healthz")[::2] == (503, "ending\n"), "it is to end")
-            self.assertEqual(self.state(relay), "stopping")
-            self.assertIn("\nrelayd_stopping 1\n", self.metrics(relay))
-            reads_on.set()
-            reader.join(LIMIT)
-            store.read_on()
+            with self.draining(relay, store):
+                self.wait_for(lambda: self.ask(relay, "/healthz")[::2] == (503, "ending\n"), "it is to end")
+                self.assertEqual(self.state(relay), "stopping")
+                self.assertIn("\nrelayd_stopping 1\n", self.metrics(relay))
             self.assertEqual(relay.end(), Ran(0, b"settled\n", b""))
 
     def test_promtool_takes_the_metrics(self):

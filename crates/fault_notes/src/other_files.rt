@@ -24,7 +24,7 @@ pub(crate) fn cause_of_other_file(text: &str) -> Option<Cause> {
 /// Which lines of other programs' files a text has.
 #[derive(Clone, Copy)]
 struct Seen {
-    /// `cluster` of carbon-c-relay, its `match`, and its statements that stand by themselves.
+    /// `cluster` of carbon-c-relay, its `match`, and what it writes without either: `rewrite`, `include`.
     has_cluster: bool,
     has_match: bool,
     has_statement: bool,
@@ -64,7 +64,7 @@ impl Seen {
     }
 }
 
-/// Whether a line is a statement of carbon-c-relay that stands by itself.
+/// Whether a line is a `rewrite` or an `include` of carbon-c-relay.
 fn is_statement(line: &str) -> bool {
     let is_rewrite = line.starts_with("rewrite ") && line.contains(" into ");
     let is_include = line.starts_with("include ") && line.ends_with(';');

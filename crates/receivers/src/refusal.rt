@@ -41,7 +41,7 @@ pub(crate) fn is_final(error: &Error) -> bool {
     )
 }
 
-/// What a receiver of datagrams is told of an error: of one that can pass, that no datagram is there now.
+/// The error that a datagram receiver gets for this one: `WouldBlock` for each that can pass, so that it tries again.
 pub(crate) fn passing(error: Error) -> Error {
     if is_final(&error) || matches!(error.kind(), ErrorKind::Interrupted) {
         error

@@ -273,11 +273,13 @@ pub(crate) fn take_left_new<D: SpoolDisk>(
         return Ok(());
     }
     if is_free(disk, held) {
-        let _ = disk.give_name(new, held);
-        return write!(
-            news,
-            "spool: {new}: a relay was killed while it wrote this; it is {held} now\n"
-        );
+        return match disk.give_name(new, held) {
+            Ok(()) => write!(
+                news,
+                "spool: {new}: a relay was killed while it wrote this; it is {held} now\n"
+            ),
+            Err(error) => tell_not_renamed(news, new, error),
+        };
     }
     match move_aside(disk, names, new) {
         Ok(aside) => {
@@ -288,11 +290,18 @@ pub(crate) fn take_left_new<D: SpoolDisk>(
             drop(aside);
             told
         }
-        Err(error) => {
-            drop(error);
-            Ok(())
-        }
+        Err(error) => tell_not_renamed(news, new, error),
     }
+}
+
+/// The news of a new file of a killed relay that keeps its name.
+fn tell_not_renamed(news: &mut String, new: &str, error: io::Error) -> Result<(), AllocError> {
+    let told = write!(
+        news,
+        "spool: {new}: a relay was killed while it wrote this; cannot rename it: {error}\n"
+    );
+    drop(error);
+    told
 }
 
 /// The news of a file with something behind its whole lines.
