@@ -39,7 +39,7 @@ class Reloaded(ServiceRelayd):
             admin.sendall(b"reload\n")
             admin.shutdown(socket.SHUT_WR)
             answer = b"".join(iter(lambda: admin.recv(4_096), b""))
-        if answer != b"reloaded\n":
+        if not answer.startswith(b"reloaded"):
             raise RuntimeError(f"the relay answers {answer}")
 
 

@@ -1,8 +1,8 @@
 #!/usr/bin/env python3
 """Sends what a running relay reports of its queues to Graphite, under the names that carbon's own relay gives them.
 
-    report_to_graphite.py --admin PORT --to HOST:PORT [--status PORT] [--prefix NAME] [--instance NAME]
-                          [--state FILE | --every SECONDS]
+    report_to_graphite.py --admin PORT [--admin-key FILE] --to HOST:PORT [--status PORT] [--prefix NAME]
+                          [--instance NAME] [--state FILE | --every SECONDS]
 
 Asks the admin port of a relay on this machine for its report, and writes five lines for each destination to the line
 port of --to, which may be the relay's own:
@@ -48,6 +48,7 @@ REJECTED = ("bad_lines", "bad_pickles", "bad_rows", "bad_names")
 LOST = ("overlong", "unfinished", "idle", "memory_short", "broken", "system_drop")
 PROCESS = re.compile(r"^process_(cpu_seconds_total|resident_memory_bytes|start_time_seconds) (\S+)$", re.MULTILINE)
 RELAY = "relay"  # the row of a relay beside those of its destinations, which have a colon
+UNKNOWN = "unknown command\n"
 LIMIT = 5  # seconds that an answer may take, and sending
 LONGEST = 1 << 20  # bytes of an answer
 
@@ -68,6 +69,7 @@ def arguments():
     """The words of the command line."""
     parser = argparse.ArgumentParser(description="Sends a relay's report to Graphite.")
     parser.add_argument("--admin", type=int, required=True, metavar="PORT", help="the relay's admin port")
+    parser.add_argument("--admin-key", metavar="FILE", help="a file whose first line is the key of that port")
     parser.add_argument("--status", type=int, metavar="PORT", help="the port of its status server, for what the report lacks")
     parser.add_argument("--to", type=place, required=True, metavar="HOST:PORT", help="where lines are received")
     parser.add_argument("--prefix", default="carbon", metavar="NAME",
@@ -79,12 +81,29 @@ def arguments():
     return parser.parse_args()
 
 
-def report(admin):
-    """The report of the relay with this admin port, within the limit."""
+def key_line(path):
+    """The line that goes before a command, where the admin port has a key, in a file."""
+    if path is None:
+        return b""
+    try:
+        with open(path, "rb") as file:
+            return b"key " + file.readline(200).rstrip(b"\r\n") + b"\n"
+    except OSError as error:
+        raise Failed(f"{path}: {error.strerror}") from error
+
+
+def report(admin, key):
+    """The report of the relay with this admin port, within the limit; a relay without a key does not know a command behind one."""
+    answer = answer_to(admin, key + b"report\n")
+    return answer_to(admin, b"report\n") if key and answer == UNKNOWN else answer
+
+
+def answer_to(admin, text):
+    """What the relay with this admin port answers, within the limit."""
     end, answer = time.monotonic() + LIMIT, b""
     try:
         with socket.create_connection(("127.0.0.1", admin), LIMIT) as stream:
-            stream.sendall(b"report\n")
+            stream.sendall(text)
             while more := stream.recv(65536):
                 answer += more
                 left = end - time.monotonic()
@@ -213,7 +232,7 @@ def turn(words, before):
     """Asks, and sends what is answered. Gives the counts, with which the next turn begins."""
     machine = socket.gethostname().replace(".", "_") + (f"-{words.instance}" if words.instance else "")
     prefix, now = f"{words.prefix}.relays.{machine}", time.time()
-    counts, relay = counts_of(report(words.admin)), {}
+    counts, relay = counts_of(report(words.admin, key_line(words.admin_key))), {}
     rows = before and {name: row for name, row in before.items() if name != RELAY}
     lines = lines_of(counts, rows, prefix, int(now))
     if words.status is not None:

@@ -134,7 +134,7 @@ class Service:
 
     def report(self):
         """How many lines it answers `report` with, as the operator asks."""
-        return self.shell("echo report | nc -N 127.0.0.1 2015").count("destination ")
+        return self.shell("relayd report --admin 2015 --admin-key /etc/relayd/admin.key").count("destination ")
 
     def shell(self, text):
         """What a line of a shell prints."""
@@ -221,7 +221,7 @@ def runs_instances(service, checks):
     units = [f"relayd@{name}" for name in INSTANCES]
     checks.that("two instances are started", service.systemctl("start", *units) == 0,
                 service.shell("journalctl -q -o cat -u 'relayd@*' | tail -n 8"))
-    reports = [service.shell(f"relayd report --admin {admin}").count("destination ") for admin, _, _ in INSTANCES.values()]
+    reports = [service.shell(f"relayd report --admin {admin} --admin-key /etc/relayd/admin.key").count("destination ") for admin, _, _ in INSTANCES.values()]
     checks.that("each answers at its own port, beside the relay without an instance", reports == [3, 3] and service.report() == 3,
                 reports)
     users = {service.shell(f"stat -c %u /proc/$(systemctl show -p MainPID --value {unit})").strip() for unit in units}
@@ -249,7 +249,7 @@ def stops(service, checks):
     service.ended("it has settled then too")
     checks.that("it is started again", service.begin() == 0)
     before = service.state("MainPID")
-    service.shell("echo stop | nc -N 127.0.0.1 2015")
+    service.shell("relayd stop --admin 2015 --admin-key /etc/relayd/admin.key")
     # For a moment it has no process, and systemd still says that it runs.
     back = service.until(lambda: service.state("SubState") == ("running",) and service.state("MainPID") not in (before, ("0",)))
     checks.that("stopped at its admin port it is started again", back and service.report() == 3, service.state("SubState", "MainPID"))

@@ -49,6 +49,8 @@ SPOKEN_OF = ["docs/FAULTS.md", "docs/CONFIGURATION.md", "docs/ROUTING.md", "docs
 MOST_EXPOSED = 20  # tenths, of 100, by `systemd-analyze security`
 NOT_OURS = ("/root", "/var/log", "/var/cache")
 ADMIN = ("127.0.0.1", 2015)  # as in the unit
+KEY = "/etc/relayd/admin.key"
+GROUP = "relayd-admin"       # whose members may read it
 # The last lines of its log, and its closing line.
 SETTLED = "relay stopped, 0 datapoints spooled\nrelay stopped, 0 datapoints not sent\nsettled\n"
 
@@ -224,10 +226,18 @@ def pleases_lintian(package, checks):
     checks.that("lintian finds no error in it", ran.returncode == 0, ran.stdout)
 
 
-def answer(command):
-    """What the admin port answers."""
+def group_of(to, name):
+    """The number of a group there."""
+    with open(to.path("/etc/group"), encoding="ascii") as file:
+        return next(line.split(":")[2] for line in file if line.startswith(name + ":"))
+
+
+def answer(to, command):
+    """What the admin port answers who knows its key."""
+    with open(to.path(KEY), "rb") as file:
+        key = file.readline()
     with socket.create_connection(ADMIN, LIMIT) as stream:
-        stream.sendall(command + b"\n")
+        stream.sendall(b"key " + key + command + b"\n")
         text = b""
         while more := stream.recv(65536):
             text += more
@@ -236,7 +246,9 @@ def answer(command):
 
 def runs_as_its_unit_says(to, checks):
     """The commands of the unit start it, as a user without rights, and stop it."""
-    start = ["chroot", f"--userspec={NOBODY}:{NOBODY}", to.folder, "/bin/sh", "-c", "exec " + to.words_of("ExecStart")]
+    key = os.stat(to.path(KEY))
+    checks.that("root and a group of its own may read the key", key.st_mode & 0o777 == 0o640 and key.st_gid == int(group_of(to, GROUP)))
+    start = ["chroot", f"--userspec={NOBODY}:{NOBODY}", f"--groups={group_of(to, GROUP)}", to.folder, "/bin/sh", "-c", "exec " + to.words_of("ExecStart")]
     variables = to.variables()
     with subprocess.Popen(start, env={**os.environ, **variables}, stdin=subprocess.DEVNULL, stdout=subprocess.PIPE,
                           stderr=subprocess.STDOUT, text=True) as child:
@@ -245,7 +257,7 @@ def runs_as_its_unit_says(to, checks):
             checks.that("it starts", ready == "ready\n", ready)
             if ready == "ready\n":
                 threading.Thread(target=child.wait, daemon=True).start()  # as systemd does, so that its number goes
-                checks.that("it reports", answer(b"report").count(b"\n") == 3)
+                checks.that("it reports", answer(to, b"report").count(b"\n") == 3)
                 variables["MAINPID"] = str(child.pid)
                 checks.run("its ExecStartPost finds it ready",
                            to.run("/bin/sh", "-c", to.words_of("ExecStartPost"), **variables))

@@ -53,7 +53,7 @@ Version: $version
 Section: net
 Priority: optional
 Architecture: amd64
-Depends: libc6 (>= 2.34)
+Depends: libc6 (>= 2.34), passwd
 Recommends: systemd, python3
 Suggests: netcat-openbsd
 Maintainer: $maintainer
@@ -64,9 +64,16 @@ Description: relay for Graphite metrics
  queue for each destination, and writes lines to each.
 END
 
+# The key of the admin port, which root and the members of a group of its own may read: the service and who commands it.
 cat >"$root/DEBIAN/postinst" <<'END'
 #!/bin/sh
 set -e
+if [ "$1" = configure ]; then
+    getent group relayd-admin >/dev/null || groupadd --system relayd-admin
+    if [ ! -e /etc/relayd/admin.key ]; then
+        head -c 24 /dev/urandom | base64 | install -m 640 -o root -g relayd-admin /dev/stdin /etc/relayd/admin.key
+    fi
+fi
 if [ -d /run/systemd/system ]; then systemctl daemon-reload; fi
 END
 cat >"$root/DEBIAN/prerm" <<'END'
@@ -83,6 +90,9 @@ if [ "$1" = purge ]; then
     rm -f /etc/systemd/system/multi-user.target.wants/relayd@*.service
     rm -f /etc/systemd/system/timers.target.wants/relayd-metrics.timer
     rm -f /etc/systemd/system/timers.target.wants/relayd-metrics@*.timer
+    rm -f /etc/relayd/admin.key
+    if [ -d /etc/relayd ]; then rmdir --ignore-fail-on-non-empty /etc/relayd; fi
+    if getent group relayd-admin >/dev/null; then groupdel relayd-admin; fi
     # What the relay did not send, what the metrics sent last, and both of instances.
     rm -rf /var/lib/private/relayd /var/lib/relayd /var/lib/private/relayd-* /var/lib/relayd-*
 fi

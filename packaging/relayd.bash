@@ -20,10 +20,13 @@ _relayd() {
         return
     fi
     case $before in
-        --config|--rules|--rewrite|--names|--lines|--record|--spool)
+        --config|--rules|--rewrite|--names|--lines|--record|--spool|--admin-key)
             _relayd_files "$word"
             return ;;
         --admin|--longest-name|--moment|--drain|--idle|--status|--status-interface)
+            return ;;
+        --log-format)
+            mapfile -t COMPREPLY < <(compgen -W "text timed json" -- "$word")
             return ;;
         --senders)
             mapfile -t COMPREPLY < <(compgen -W "1 2 3 4 5 6 7 8" -- "$word")
@@ -39,10 +42,11 @@ _relayd() {
         route) options="--config --rules --rewrite --longest-name --names --explain" ;;
         replay) options="--config --rules --rewrite --longest-name --lines --text --explain" ;;
         run)
-            options="--config --rules --rewrite --longest-name --admin --senders --line-receivers --idle --drain --spool --status --status-interface --log --record --explain" ;;
-        report) options="--admin" ;;
-        stop) options="--admin --wait" ;;
-        restart|reload) options="--config --rules --rewrite --longest-name --explain --admin" ;;
+            options="--config --rules --rewrite --longest-name --admin --admin-key --senders --line-receivers --idle --drain --spool --status --status-interface --log --log-format --record --explain" ;;
+        report) options="--admin --admin-key" ;;
+        stop) options="--admin --admin-key --wait" ;;
+        restart) options="--config --rules --rewrite --longest-name --explain --admin --admin-key" ;;
+        reload) options="--explain --admin --admin-key" ;;
         help)
             mapfile -t COMPREPLY < <(compgen -W "pass check route replay run report stop restart reload help" -- "$word")
             return ;;

@@ -10,7 +10,7 @@ from fixtures.harness import LIMIT, Ran, run
 from fixtures.running import WithRelays
 from fixtures.stores import free_ports
 
-FAULT = b"relayd: admin: %s\n"
+FAULT = b"relayd: admin: 127.0.0.1:%d: %s\n"
 HASHED = {"RELAY_METHOD": "consistent-hashing"}
 STEPS = 30_000          # of a run whose record takes a while to write
 SHORT_WAIT = 3.0        # seconds: longer than a silent connection of the admin port has otherwise
@@ -114,7 +114,7 @@ class Asked(WithRelays):
     def test_nothing_listens(self):
         port = free_ports(1)[0]
         for words in (("report",), ("stop",), ("stop", "--wait")):
-            self.asks(Ran(3, b"", FAULT % b"cannot connect"), *words, "--admin", port)
+            self.asks(Ran(3, b"", FAULT % (port, b"connection refused")), *words, "--admin", port)
 
     def test_answers_of_other_programs(self):
         """None, one that is cut, that the command is unknown, and what no relay answers; what is sent is one line."""
@@ -123,41 +123,40 @@ class Asked(WithRelays):
                               (b"unknown command\n", b"unknown command"), (WEB_SERVER, b"no relay"), (b"stopping\n", b"no relay"),
                               (report + b"x\n", b"no relay"), (b"x" * 100_000 + b"\n", b"no relay")):
             with answering(answer) as (port, read):
-                self.asks(Ran(3, b"", FAULT % fault), "report", "--admin", port)
+                self.asks(Ran(3, b"", FAULT % (port, fault)), "report", "--admin", port)
             self.assertEqual(read, [b"report\n"])
         for answer, fault in ((b"", b"no answer"), (b"stop", b"answer cut off"), (b"unknown command\n", b"unknown command"),
                               (WEB_SERVER, b"no relay"), (report, b"no relay"), (b"stop\n", b"no relay"), (b"stopping\n\n", b"no relay")):
             with answering(answer) as (port, read):
-                self.asks(Ran(3, b"", FAULT % fault), "stop", "--admin", port)
+                self.asks(Ran(3, b"", FAULT % (port, fault)), "stop", "--admin", port)
             self.assertEqual(read, [b"stop\n"])
 
     def test_a_reload(self):
-        """What is sent names the files; what is answered is the output, or the fault with the status that it has."""
-        named = ("--config", "/a b/relay.conf", "--rules", "/r", "--rewrite", "/w", "--longest-name", "1024")
-        lines = b"reload\nconfig /a b/relay.conf\nrules /r\nrewrite /w\nlongest-name 1024\n"
-        for words, asked in (((), b"reload\n"), (("--config", "/c"), b"reload\nconfig /c\n"), (named, lines)):
-            with answering(b"reloaded\n") as (port, read):
-                self.asks(Ran(0, b"reloaded\n", b""), "reload", *words, "--admin", port)
-            self.assertEqual(read, [asked])
+        """What is sent is one line; what is answered is the output, or the fault with the status that it has."""
+        for answer in (b"reloaded: rules changed\n", b"reloaded\n"):
+            with answering(answer) as (port, read):
+                self.asks(Ran(0, answer, b""), "reload", "--admin", port)
+            self.assertEqual(read, [b"reload\n"])
         for status, code in ((1, b"1"), (3, b"3"), (4, b"4")):
-            with answering(b"refused %s config: line 3: BadLine\na note\n" % code) as (port, _):
+            with answering(b"refused %s config: line 3: BadLine\nmore\n" % code) as (port, _):
                 self.asks(Ran(status, b"", b"relayd: config: line 3: BadLine\n"), "reload", "--admin", port)
-            with answering(b"refused %s config: line 3: BadLine\na note\n" % code) as (port, _):
-                noted = b"relayd: config: line 3: BadLine\nrelayd: note: a note\n"
-                self.asks(Ran(status, b"", noted), "reload", "--explain", "--admin", port)
         for answer, fault in ((b"", b"no answer"), (b"reload", b"answer cut off"), (b"unknown command\n", b"unknown command"),
                               (b"refused 1 config: l", b"answer cut off"), (b"refused 2 x\n", b"no relay"),
                               (b"reloaded\n\n", b"no relay"), (b"stopping\n", b"no relay"), (WEB_SERVER, b"no relay")):
             with answering(answer) as (port, _):
-                self.asks(Ran(3, b"", FAULT % fault), "reload", "--admin", port)
+                self.asks(Ran(3, b"", FAULT % (port, fault)), "reload", "--admin", port)
 
     def test_wrong_words_of_a_reload(self):
-        """Its paths begin with a slash, and without a configuration file there are no others."""
-        for words in ((), ("--rules", "/r"), ("--rewrite", "/w"), ("--longest-name", "9"), ("--config", "relay.conf"),
-                      ("--config", "/c", "--rules", "rules"), ("--config", "/c", "--longest-name", "0"), ("--config", "/a\nb")):
+        """It takes no files and no options of a run, and says what to do instead."""
+        for words in (("--config", "/c"), ("--rules", "/r"), ("--rewrite", "/w"), ("--longest-name", "9"), ("--spool", "/s"),
+                      ("--drain", "5")):
             with self.subTest():
-                ran = run(("reload", *words, *(("--admin", "1") if words else ())))
+                ran = run(("reload", *words, "--admin", "1"))
                 self.assertEqual((ran.status, ran.out), (2, b""), words)
+                self.assertIn(b"unexpected argument '%s' found\n\n  tip: the relay reads the files again that it began with; "
+                              b"replace these, or restart it with others\n" % words[0].encode(), ran.err)
+        ran = run(("reload",))
+        self.assertEqual((ran.status, ran.out), (2, b""))
 
     def test_an_output_that_is_full(self):
         with answering(b"destination a\n") as (port, _), open("/dev/full", "wb") as full:

@@ -211,6 +211,6 @@ exec {shlex.join([shutil.which("podman"), *self.podman[1:]])} "$@"
                              stdout=subprocess.PIPE, stderr=subprocess.PIPE, text=True, timeout=harness.LIMIT,
                              env=os.environ | {"PATH": f"{folder}{os.pathsep}{os.environ['PATH']}"})
         self.assertEqual(ran.returncode, 0, ran.stderr)
-        for said in ("healthy\n", "destination 127.0.0.1:2203:b queued", "reloaded\n"):
+        for said in ("healthy\n", "destination 127.0.0.1:2203:b queued", "reloaded: "):
             self.assertIn(said, ran.stdout, ran.stderr)
         self.assertEqual(len(commands), 11, commands)

@@ -156,8 +156,6 @@ class Cures(WithFiles):
         elsewhere = {f"{role}: cannot read" for role in ("config", "rules", "rewrite", "script")} | {"input", "output"}
         elsewhere |= {f"spool: DIR: {it}" for it in ("cannot write", "another relay uses it")}
         elsewhere |= {f"listen: {role}" for role in ("line", "pickle", "udp", "admin", "status")}
-        elsewhere |= {f"admin: {it}" for it in ("cannot connect", "no answer", "no answer in time", "answer cut off", "unknown command", "no relay",
-                                            "still running")}
         here = {f"{cure.role}: " + re.sub(r"^\d+:", "SECTION:", re.sub(r"^line [1-9]\d*", "line N", cure.fault))
                 for cure in (*CURES, *SCRIPTS)}
         self.assertEqual(sorted(here ^ (named - elsewhere)), [])

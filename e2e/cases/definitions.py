@@ -1,5 +1,5 @@
-"""The index of definitions: each row leads from a rule to a definition, a contract, a proof, a test that can fail by itself,
-and a wrong edit."""
+"""The index of definitions: each row leads from a rule to a definition, a contract, a test that can fail by itself, and a
+wrong edit."""
 
 import pathlib
 import re
@@ -15,9 +15,8 @@ DECISIONS = ROOT / "docs" / "DECISIONS.md"
 FORMS = "## Forms that the kit decides\n"
 RULE = re.compile(r"\[.+\]\((?P<page>[A-Z]+\.md)(?:#[\w-]+)?\)")
 PLACE = re.compile(r"(?P<names>`[\w: ]+`(?:, `[\w: ]+`)*) in (?:`(?P<crate>\w+)`'s )?`(?P<file>[\w/]+\.\w+)`")
-FOLDER = re.compile(r"(?:`(?P<crate>\w+)`'s )?`(?P<path>proofs/[\w/]+)`")
 EDIT = re.compile(r"`(?P<name>\w+)`(?: of `(?P<crate>\w+)`)?")
-NO_PROOF, NO_TEST, NO_EDIT = "automatic", "none: a law", "none"
+NO_TEST, NO_EDIT = "none: a law", "none"
 EDIT_FOLDERS = ("must-fail", "more-edits")
 WORKED = "e2e/fixtures/worked_rows.py"
 
@@ -29,7 +28,6 @@ class Row(NamedTuple):
     crate: str
     definition: str
     contract: str
-    proof: str
     test: str
     edit: str
 
@@ -94,24 +92,6 @@ def lacking(row, cell, kind):
     """What a cell names that its file does not have."""
     return [f"{name} in {crate}/{file}" for crate, file, names in places(row, cell) for name in names
             if not has(CRATES / crate / file, kind, name)]
-
-
-def needs_proof(row):
-    """The folders of proofs of the files of a row's contracts."""
-    files = [CRATES / crate / file for crate, file, _ in places(row, row.contract)]
-    folders = [file.parents[1] / "proofs" / file.stem for file in files]
-    return [str(folder.relative_to(ROOT)) for folder in folders if folder.is_dir()]
-
-
-def lacking_proofs(row):
-    """What is wrong with the cell of proofs: a folder that is not there, or one that it leaves out."""
-    if row.proof == NO_PROOF:
-        return needs_proof(row)
-    found = list(FOLDER.finditer(row.proof))
-    if ", ".join(folder[0] for folder in found) != row.proof:
-        return [row.proof]
-    return [folder[0] for folder in found
-            if not (CRATES / (folder["crate"] or crate_of(row)) / folder["path"]).is_dir()]
 
 
 def lacking_tests(row):
@@ -182,9 +162,6 @@ class Definitions(unittest.TestCase):
 
     def test_each_contract_is_there(self):
         self.check(lambda row: lacking(row, row.contract, r"\b(?:fn|struct|trait) "))
-
-    def test_each_proof_is_there(self):
-        self.check(lacking_proofs)
 
     def test_each_test_can_fail(self):
         self.check(lacking_tests)

@@ -1,6 +1,7 @@
 """`relayd run --drain SECONDS`: what is queued when the relay takes `stop` is still sent, for that long at most."""
 
 import contextlib
+import os
 import re
 import socket
 import threading
@@ -24,9 +25,9 @@ class Draining(WithRelays):
     """A stop of a relay whose stores have not got all."""
 
     @contextlib.contextmanager
-    def queued(self, store, dests, seconds):
+    def queued(self, store, dests, seconds, *options):
         """A relay that drains for so many seconds, and has sent the first store of its destinations a part of the lines."""
-        options = ("--drain", seconds, "--log")
+        options = ("--drain", seconds, "--log", *options)
         with self.relay(dests, ALL.format(", ".join(dests)), options=options, MAX_QUEUE_SIZE="100000") as relay:
             relay.log = Log(relay.child.stderr)
             relay.lines(b"".join(line + b"\n" for line in LINES))
@@ -106,19 +107,26 @@ class Draining(WithRelays):
         return left
 
     def test_a_store_that_is_too_slow(self):
-        """At its rate the store would not have all in time: the relay does not wait for it, and for another one it does."""
-        def waited():
+        """At its rate the store would not have all in time. Where a file keeps the rest, the relay does not wait for it; without
+        one it sends what it can."""
+        def waited(*options):
             slow, = self.stores(1, reads=False, room=4096)
             dests = [f"127.0.0.1:{slow.port}"]
-            with self.queued(slow, dests, "10") as relay:
+            with self.queued(slow, dests, "6", *options) as relay:
                 with self.reads_slowly(slow):
                     began = self.stopped(relay)
                     self.assertEqual(relay.child.wait(LIMIT), 0)
                     took = time.monotonic() - began
-                self.assertGreater(self.left_at_the_end(relay.log, dests[0], b"too slow"), 0)
+                relay.log.thread.join(LIMIT)
+                is_given_up = b"not waited for: too slow" in relay.log.of(dests[0])
+                self.assertEqual(is_given_up, bool(options))
+                self.assertIn(b"relay stopped, 0 datapoints not sent\n" if options else b"", b"".join(relay.log.lines))
             return took
 
-        self.gets_below(5.0, waited)
+        folder = os.path.join(os.fspath(self.folder), "spool")
+        os.mkdir(folder)
+        self.gets_below(4.0, lambda: waited("--spool", folder))
+        self.assertGreaterEqual(waited(), 5.9)
 
     def test_no_longer_than_it_may(self):
         """A store that takes something now and then holds up the end for those seconds at most."""

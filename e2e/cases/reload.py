@@ -100,26 +100,50 @@ class Connections(Reloads):
             self.wait_for(lambda: relay.totals()["queued"] == 0, "nothing is queued")
             self.stops(relay)
 
+    def test_a_store_that_goes_while_a_rest_is_sent(self):
+        """It gets what the first connection took, and by the next one all others, from a whole line on."""
+        store, = self.stores(1, reads=False, room=4096)
+        dests = [f"127.0.0.1:{store.port}"]
+        with self.running(dests, MAX_QUEUE_SIZE="100000") as relay:
+            relay.lines(text_of(LONG))
+            self.wait_for(lambda: relay.totals()["kept"] == len(LONG), "all lines are queued")
+            self.reloads(relay, dests, MAX_QUEUE_SIZE="100000")
+            slowly = threading.Event()
+            reader = threading.Thread(target=store.read_slowly, args=(0.01, slowly))
+            reader.start()
+            self.wait_for(lambda: len(store.lines()) > len(LONG) // 2, "half of them have come")
+            slowly.set()
+            reader.join(LIMIT)
+            store.open[0].shutdown(socket.SHUT_WR)
+            store.read_on()
+            self.wait_for(lambda: len(store.lines()) >= len(LONG), "all lines have come")
+            self.assertEqual(store.lines(), LONG)
+            self.assertEqual(store.connections(), 2)
+            self.stops(relay)
+
     def test_more_is_left_than_a_queue_holds(self):
-        """What does not fit is dropped and counted, as where a queue is full."""
+        """What does not fit is dropped, counted as dropped and not as taken, and the log says so."""
         port, = free_ports(1)
+        status, = free_ports(1)
         dests = [f"127.0.0.1:{port}"]
         lines = numbered(250)
-        with self.running(dests, MAX_QUEUE_SIZE="100") as relay:
+        with self.running(dests, options=("--status", str(status)), MAX_QUEUE_SIZE="100") as relay:
             for turn in range(5):
                 relay.lines(text_of(lines[turn * 50:][:50]))
-                self.wait_for(lambda: relay.totals()["queued"] >= min(50 * (turn + 1), 100), "all lines are queued")
-                self.wait_for(lambda: relay.totals()["offered"] >= 50 * (turn + 1), "all lines are offered")
+                self.wait_for(lambda: relay.totals()["offered"] == 50 * (turn + 1), "all lines are offered")
                 self.reloads(relay, dests, MAX_QUEUE_SIZE="100")
             counts = relay.totals()
-            self.assertEqual((counts["queued"], counts["dropped"]), (100, 150))
-            self.assertEqual(counts["offered"], counts["kept"] + counts["dropped"])
-            self.assertEqual(counts["kept"], counts["queued"] + counts["taken"])
+            self.assertEqual(counts, {"queued": 100, "offered": 250, "kept": 100, "dropped": 150, "taken": 0})
+            there = self.status(relay, status)["destinations"][0]
+            self.assertEqual({name: there[name] for name in counts}, counts)
+            said = b"dropped 50 at a reload"
+            self.wait_for(lambda: relay.log.of(dests[0]).count(said) == 3, "the log says so")
             store = Store(port)
             self.addCleanup(store.stop)
             store.start()
             self.wait_for(lambda: len(store.lines()) == 100, "what fitted has come")
             self.assertEqual(store.lines(), lines[:100])
+            self.wait_for(lambda: relay.totals() == counts | {"queued": 0, "taken": 100}, "the store took these alone")
             self.stops(relay)
 
     def test_several_threads(self):
@@ -329,6 +353,52 @@ class Changes(Reloads):
         with open(os.path.join(folder, names[0]), "rb") as file:
             self.assertEqual(file.read(), text_of(lines))
 
+    def test_a_stop_does_not_wait_for_a_gone_destination(self):
+        """Neither for one that is down, nor for one that takes nothing: as for those that are not gone."""
+        for is_down in (True, False):
+            with self.subTest(is_down):
+                self.gets_below(4.0, lambda: self.stopped_without(is_down))
+
+    def stopped_without(self, is_down):
+        """How long a stop takes while a gone destination that is down, or takes nothing, has something left."""
+        there, stuck = self.stores(2, reads=False, room=4096)
+        port = free_ports(1)[0] if is_down else stuck.port
+        names = [f"127.0.0.1:{port}", f"127.0.0.1:{there.port}"]
+        there.read_on()
+        with self.running(names, options=("--drain", "20"), MAX_QUEUE_SIZE="100000") as relay:
+            relay.lines(text_of(LONG))
+            self.wait_for(lambda: relay.report()[0][1]["kept"] == len(LONG), "all is queued")
+            self.reloads(relay, names[1:], MAX_QUEUE_SIZE="100000")
+            self.wait_for(lambda: len(there.lines()) == len(LONG), "the other store has all")
+            began = time.monotonic()
+            self.stops(relay)
+            took = time.monotonic() - began
+            self.assertTrue(any(line.startswith(b"gone, ") for line in relay.log.of(names[0])))
+        return took
+
+    def test_a_stop_waits_for_a_gone_destination_that_takes_slowly(self):
+        """It gets all before the relay ends."""
+        slow, other = self.stores(2, reads=False, room=4096)
+        names = [f"127.0.0.1:{store.port}" for store in (slow, other)]
+        other.read_on()
+        with self.running(names, options=("--drain", FOREVER), MAX_QUEUE_SIZE="100000") as relay:
+            relay.lines(text_of(LONG))
+            self.wait_for(lambda: all(counts["kept"] == len(LONG) for _, counts in relay.report()), "all is queued")
+            self.wait_for(slow.is_connected, "it is connected")
+            self.reloads(relay, names[1:], MAX_QUEUE_SIZE="100000")
+            slowly = threading.Event()
+            reader = threading.Thread(target=slow.read_slowly, args=(0.05, slowly))
+            reader.start()
+            self.assertEqual(relay.command(b"stop"), b"stopping\n")
+            self.assertEqual(relay.child.wait(LIMIT), 0)
+            slowly.set()
+            reader.join(LIMIT)
+            slow.read_on()
+            self.wait_for(lambda: len(slow.lines()) == len(LONG), "it has all")
+            self.assertEqual(slow.lines(), LONG)
+            relay.log.thread.join(LIMIT)
+            self.assertEqual(relay.log.of(names[0])[-1], b"gone, 0 datapoints not sent")
+
     def test_a_gone_destination_returns(self):
         """With the next reload it has what was still held for it, and its connection."""
         slow, other = self.stores(2, reads=False, room=4096)
@@ -388,6 +458,23 @@ class Changes(Reloads):
             self.stops(relay)
         self.assertIn(b"run 1: sealed 0\n", relay.log.lines)
 
+    def test_counts_of_a_sealed_run(self):
+        """So are those of a run that was too long for its history to be kept."""
+        store, = self.stores(1)
+        dests = [f"127.0.0.1:{store.port}"]
+        count = 70_000
+        with self.running(dests, MAX_QUEUE_SIZE="100000") as relay:
+            relay.lines(text_of(numbered(count)))
+            self.wait_for(lambda: relay.totals()["taken"] == count, "all are taken")
+            before = relay.totals()
+            self.reloads(relay, dests, MAX_QUEUE_SIZE="100000")
+            self.assertEqual(relay.totals(), before)
+            relay.lines(b"b 1 1700000000\n")
+            after = {name: number + (name in ("offered", "kept", "taken")) for name, number in before.items()}
+            self.wait_for(lambda: relay.totals() == after, "one more is counted")
+            self.wait_for(lambda: b"run 1: sealed 0\n" in relay.log.lines, "the log says that it was sealed")
+            self.stops(relay)
+
     def received(self, relay, port):
         """How many datapoints and bad lines the status has."""
         receivers = self.status(relay, port)["receivers"]
@@ -426,6 +513,12 @@ class Returns(Reloads):
         """A relay that keeps in the folder what it does not send."""
         return self.running(self.names, options=("--spool", self.spool, *options))
 
+    def sends(self, relay, lines):
+        """These lines are queued for both."""
+        before = relay.report()[1][1]["kept"]
+        relay.lines(text_of(lines))
+        self.wait_for(lambda: relay.report()[1][1]["kept"] == before + len(lines), "all lines are queued")
+
     def goes(self, relay, waits=True):
         """The second destination is removed, and all of it is over, if somebody is to wait for that."""
         before = len(relay.log.of(self.names[1]))
@@ -434,11 +527,68 @@ class Returns(Reloads):
             self.wait_for(lambda: any(line.startswith(b"gone, ") for line in relay.log.of(self.names[1])[before:]),
                           "it is gone")
 
+    def kept(self):
+        """The lines of its file."""
+        with open(os.path.join(self.spool, self.names[1]), "rb") as file:
+            return file.read().splitlines()
+
     def store(self):
         """Its store, from now on."""
         store = Store(self.port)
         self.addCleanup(store.stop)
         return store.start()
+
+    def test_a_store_that_is_away(self):
+        """Each time that it is removed and comes back its file keeps all, in order, and so does the next stop."""
+        lines = numbered(400)
+        for drain, senders in (("0", "1"), ("0", "2"), (FOREVER, "1"), (FOREVER, "2")):
+            with self.subTest(drain=drain, senders=senders):
+                with self.keeping("--drain", drain, "--senders", senders) as relay:
+                    self.sends(relay, lines[:100])
+                    for turn in range(1, 4):
+                        self.goes(relay, waits=drain == "0")
+                        self.reloads(relay, self.names)
+                        self.sends(relay, lines[turn * 100:][:100])
+                    self.stops(relay)
+                self.assertEqual(self.kept(), lines)
+                os.remove(os.path.join(self.spool, self.names[1]))
+
+    def test_a_store_that_was_connected(self):
+        """It was removed with nothing left. Once it is back, and then away, the stop keeps what is queued."""
+        for senders in ("1", "2"):
+            with self.subTest(senders), self.keeping("--senders", senders) as relay:
+                store = self.store()
+                relay.lines(b"a 1 1700000000\n")
+                self.wait_for(lambda: store.lines() == [b"a 1 1700000000"], "the line has come")
+                self.goes(relay)
+                self.reloads(relay, self.names)
+                self.wait_for(lambda: store.connections() == 2, "it is connected again")
+                store.stop()
+                self.wait_for(lambda: relay.log.of(self.names[1])[-1].startswith((b"lost", b"cannot connect")), "it is lost")
+                self.sends(relay, numbered(100))
+                self.stops(relay)
+            self.assertEqual(self.kept(), numbered(100))
+            os.remove(os.path.join(self.spool, self.names[1]))
+
+    def test_the_file_comes_first(self):
+        """What the file got when the destination went is sent on its return, before newer lines, and the file goes."""
+        lines = numbered(300)
+        with self.keeping() as relay:
+            self.sends(relay, lines[:100])
+            self.goes(relay)
+            self.assertEqual(self.kept(), lines[:100])
+            self.reloads(relay, self.names)
+            self.sends(relay, lines[100:200])
+            self.goes(relay)
+            self.assertEqual(self.kept(), lines[:200])
+            store = self.store()
+            self.reloads(relay, self.names)
+            relay.lines(text_of(lines[200:]))
+            self.wait_for(lambda: len(store.lines()) == 300, "all lines have come")
+            self.assertEqual(store.lines(), lines)
+            self.wait_for(lambda: os.listdir(self.spool) == ["~lock"], "the file is gone")
+            self.stops(relay)
+        self.assertEqual(os.listdir(self.spool), ["~lock"])
 
     def test_a_stop_with_nothing_left(self):
         """It takes no longer than without a return."""
@@ -462,7 +612,7 @@ class Refusals(Reloads):
 
     def refuses(self, relay, expected, *words):
         """A case: the reload is refused so, and the relay sends as before."""
-        with self.subTest(words):
+        with self.subTest(expected):
             self.assertEqual(self.reload(relay, *words), expected)
             relay.lines(b"a 1 1700000000\n")
             relay.sent += 1
@@ -473,33 +623,28 @@ class Refusals(Reloads):
         dests = [f"127.0.0.1:{store.port}"]
         with self.running(dests) as relay:
             relay.store, relay.sent = store, 0
-            good = self.files(relay, dests)
-            bad = self.write("bad.conf", "[relay]\nDESTINATIONS = a:b\n")
-            ran = self.reload(relay, "--config", bad)
-            self.assertEqual((ran.status, ran.out), (1, b""))
-            self.assertTrue(ran.err.startswith(b"relayd: config: "), ran)
-            self.assertEqual(ran.err.count(b"\n"), 1)
-            explained = self.reload(relay, "--config", bad, "--explain")
+            config = self.write("config", "[relay]\nDESTINATIONS = a:b\n")
+            fault = Ran(1, b"", b"relayd: config: DESTINATIONS: BadDestination\n")
+            self.refuses(relay, fault)
+            explained = self.reload(relay, "--explain")
             self.assertEqual(explained.status, 1)
-            self.assertTrue(explained.err.startswith(ran.err + b"relayd: note: "), explained)
-            self.refuses(relay, ran, "--config", bad)
-            away = self.path("away.conf")
-            self.refuses(relay, Ran(3, b"", b"relayd: config: cannot read: %s\n" % away.encode()), "--config", away)
+            self.assertTrue(explained.err.startswith(fault.err + b"relayd: note: "), explained)
+            os.remove(config)
+            away = b"relayd: config: cannot read: %s: No such file or directory (os error 2)\n" % config.encode()
+            self.refuses(relay, Ran(3, b"", away))
             ports = list(relay.listening)
             ports[0] = free_ports(1)[0]
-            other = self.write("port.conf", self.configuration(dests, ports))
-            self.refuses(relay, Ran(1, b"", b"relayd: LINE_RECEIVER_PORT: needs a restart\n"),
-                         "--config", other, *good[2:])
-            self.assertEqual(self.reload(relay, *good), RELOADED)
-            self.refuses(relay, ran, "--config", bad)
+            self.write("config", self.configuration(dests, ports))
+            self.refuses(relay, Ran(1, b"", b"relayd: LINE_RECEIVER_PORT: needs a restart\n"))
+            self.reloads(relay, dests)
+            self.write("config", "[relay]\nDESTINATIONS = a:b\n")
+            self.refuses(relay, fault)
             self.stops(relay)
 
     def test_no_relay(self):
         port, = free_ports(1)
         ran = run(("reload", "--admin", str(port)))
         self.assertEqual((ran.status, ran.out), (3, b""))
-        ran = run(("reload", "--config", "relative.conf", "--admin", str(port)))
-        self.assertEqual(ran.status, 2)
 
     def test_a_stop_at_once(self):
         """A stop that comes while a reload is under way is answered by the run that follows, or the reload by nobody."""
@@ -517,7 +662,7 @@ class Refusals(Reloads):
                 self.assertEqual(relay.command(b"stop"), b"stopping\n")
                 self.assertEqual(relay.child.wait(LIMIT), 0)
                 asking.join(LIMIT)
-                self.assertIn(ran[0].out, (b"reloaded\n", b""))
+                self.assertRegex(ran[0].out, rb"\A(reloaded: .*\n)?\Z")
                 self.assertEqual(relay.child.stdout.read(), b"settled\n")
 
     def test_out_of_memory(self):

@@ -1,8 +1,8 @@
--- The lines of a request, one after the other.
+-- The lines of an answer, one after the other.
 use Rattle.std.proofs.Common.{◌≡◌, ℕ, ◌+◌, ◌<◌, ◌≤◌, List, length, get_or, drop, Option, None, Some, ap, sym, ◌∙◌}
 use Rattle.std.proofs.lemmas.List.{at_drop_more, at_drop_all}
 use Rattle.admin_client.specs.ReloadAnswer.{behind}
-use Rattle.admin_client.specs.ReloadRequest.{or_later, first_behind}
+use Rattle.admin_client.specs.FilesAnswer.{or_later, first_behind}
 
 -- the line at n is looked at
 line_at : (words : List ℕ) (lines : List (List ℕ)) (n : ℕ) (line : List ℕ) → (n < length lines) × (line ≡ get_or lines n line) → first_behind words (drop n lines) ≡ or_later (behind words line) (first_behind words (drop (n + 1) lines))

@@ -2,8 +2,9 @@
 use Rattle.std.specs.Prelude.{ℕ, ◌≡◌, Bool, true, List, Some, codes}
 use Rattle.std.specs.Str.{bytes_eq}
 use Rattle.admin_client.specs.declared.admin_command.AdminCommand.{AdminCommand}
-use Rattle.admin_client.specs.declared.admin_command.AdminCommand.TheVariants.{Report, Stop, Reload}
+use Rattle.admin_client.specs.declared.admin_command.AdminCommand.TheVariants.{Report, Stop, Reload, Files}
 use Rattle.admin_client.specs.ReloadAnswer.{ReloadEnd, reload_end}
+use Rattle.admin_client.specs.FilesAnswer.{FileNames, files_in}
 
 -- the answer to `stop`
 abbrev pub is_stopping : List ℕ → Bool
@@ -14,3 +15,4 @@ abbrev pub IsAnswerTo : AdminCommand → List ℕ → Type 0
 IsAnswerTo Stop answer = is_stopping answer ≡ true
 IsAnswerTo Report answer = Unit {0}
 IsAnswerTo Reload answer = (end : ReloadEnd) × (reload_end answer ≡ Some end)
+IsAnswerTo Files answer = (files : FileNames) × (files_in answer ≡ Some files)

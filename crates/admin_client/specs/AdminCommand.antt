@@ -5,7 +5,7 @@ use Rattle.std.specs.Str.{bytes_eq}
 use Rattle.std.specs.Io.BufRead.{strip_last}
 use Rattle.relay_base.specs.Ascii.{newline, carriage_return}
 use Rattle.admin_client.specs.declared.admin_command.AdminCommand.{AdminCommand}
-use Rattle.admin_client.specs.declared.admin_command.AdminCommand.TheVariants.{Report, Stop, Reload}
+use Rattle.admin_client.specs.declared.admin_command.AdminCommand.TheVariants.{Report, Stop, Reload, Files}
 
 -- a newline ends the first line
 abbrev pub is_newline : ℕ → Bool
@@ -29,7 +29,8 @@ abbrev pub command_of : List ℕ → Option AdminCommand
 command_of text =
     if bytes_eq text (codes "report") then Some Report
     else (if bytes_eq text (codes "stop") then Some Stop
-    else (if bytes_eq text (codes "reload") then Some Reload else None))
+    else (if bytes_eq text (codes "reload") then Some Reload
+    else (if bytes_eq text (codes "files") then Some Files else None)))
 
 -- the command that was sent, if it is one
 abbrev pub command_in : List ℕ → Option AdminCommand

@@ -1,6 +1,7 @@
 pub mod AdminCommand
+pub mod AdminKey
 pub mod ReloadAnswer
 pub mod ReloadText
-pub mod ReloadRequest
+pub mod FilesAnswer
 pub mod ReloadNames
 pub mod AdminAnswer

@@ -1,13 +1,13 @@
 -- What a relay answers to `reload`.
-use Rattle.std.specs.Prelude.{ℕ, List, length, take, drop, codes, Option, None, Some, if◌then◌else◌}
+use Rattle.std.specs.Prelude.{ℕ, Bool, true, false, ◌||◌, List, length, take, drop, codes, Option, None, Some, if◌then◌else◌}
 use Rattle.std.specs.Str.{bytes_eq}
 use Rattle.admin_client.specs.declared.reload_answer.Refusal.{Refusal}
 use Rattle.admin_client.specs.declared.reload_answer.Refusal.TheVariants.{Configuration, Device, NoMemory}
 
 pub data ReloadEnd : Type 0 where
-  -- the relay runs by the new files
+  -- the relay runs by what its files say now
   Reloaded : ReloadEnd
-  -- it goes on as it was: why, and a text whose first line has the reason, and the others the notes
+  -- it goes on as it was: why, and a text whose first line has the reason
   Refused : Refusal → List ℕ → ReloadEnd
 
 -- the words before the reason: the status that the command ends with
@@ -33,7 +33,13 @@ refusal_in answer =
     (or_refused Device (behind (words_of Device) answer)
     (or_refused NoMemory (behind (words_of NoMemory) answer) None))
 
--- what an answer says, if it is one
+-- whether there is a text
+abbrev pub is_there : Option (List ℕ) → Bool
+is_there None = false
+is_there (Some text) = true
+
+-- what an answer says, if it is one; behind `reloaded: ` it says what changed, and one without that is of an older relay
 abbrev pub reload_end : List ℕ → Option ReloadEnd
 reload_end answer =
-    if bytes_eq answer (codes "reloaded\n") then Some Reloaded else refusal_in answer
+    if bytes_eq answer (codes "reloaded\n") || is_there (behind (codes "reloaded: ") answer)
+    then Some Reloaded else refusal_in answer

@@ -5,13 +5,16 @@ ghost use Rattle.admin_client.specs.AdminAnswer.{IsAnswerTo, is_stopping};
 
 use crate::admin_command::{AdminCommand, STOPPING, UNKNOWN_COMMAND};
 use crate::admin_fault::AdminFault;
+use crate::admin_key::WRONG_KEY;
 use crate::reload_answer::{RELOADED, reload_answer_in};
+use crate::reload_files::reload_files_in;
 
 /// What each line of a report begins with.
 const DESTINATION: &[u8] = b"destination ";
 
 /// Refuses all that arrived on a connection, up to its end, if it is not what a relay answers to a command: `stopping` to
-/// `stop`, lines of destinations, one or more, to `report`, and `reloaded` or a refusal with its reason to `reload`.
+/// `stop`, lines of destinations, one or more, to `report`, `reloaded` or a refusal with its reason to `reload`, and the name of
+/// a configuration file, with others, to `files`.
 pub(crate) fn check_answer(command: AdminCommand, answer: &[u8]) -> Result<(), AdminFault>
     ensures ok { OnOk result (IsAnswerTo command answer.now) }
 {
@@ -21,10 +24,14 @@ pub(crate) fn check_answer(command: AdminCommand, answer: &[u8]) -> Result<(), A
     if answer == UNKNOWN_COMMAND {
         return Err(AdminFault::UnknownCommand);
     }
+    if answer == WRONG_KEY {
+        return Err(AdminFault::WrongKey);
+    }
     match command {
         AdminCommand::Stop => check_stopping(answer),
         AdminCommand::Report => check_report(answer),
         AdminCommand::Reload => check_reload(answer),
+        AdminCommand::Files => check_files(answer),
     }
 }
 
@@ -49,6 +56,17 @@ fn check_reload(answer: &[u8]) -> Result<(), AdminFault>
         Some(_) if answer.ends_with(b"\n") => Ok(()),
         Some(_) => Err(AdminFault::CutOff),
         None if RELOADED.starts_with(answer) => Err(AdminFault::CutOff),
+        None => Err(AdminFault::NoRelay),
+    }
+}
+
+/// Refuses what names no configuration file, and an answer whose last line has no end.
+fn check_files(answer: &[u8]) -> Result<(), AdminFault>
+    ensures ok { OnOk result (IsAnswerTo AdminCommand.Files answer.now) }
+{
+    match reload_files_in(answer) {
+        Some(_) if answer.ends_with(b"\n") => Ok(()),
+        Some(_) => Err(AdminFault::CutOff),
         None => Err(AdminFault::NoRelay),
     }
 }

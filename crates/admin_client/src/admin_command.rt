@@ -4,7 +4,8 @@ ghost use Rattle.std.specs.Prelude.{◌≡◌};
 ghost use Rattle.std.specs.List.{position};
 ghost use Rattle.std.specs.Io.BufRead.{strip_last};
 ghost use Rattle.relay_base.specs.Ascii.{carriage_return};
-ghost use Rattle.admin_client.specs.AdminCommand.{is_newline, first_line, command_of, command_in};
+ghost use Rattle.admin_client.specs.AdminCommand.{is_newline, first_line, command_text, command_of, command_in};
+ghost use Rattle.admin_client.specs.AdminKey.{line_of};
 
 /// How many bytes the text of a command has at most; a longer one is none.
 pub const LONGEST_COMMAND: usize = 64;
@@ -22,17 +23,22 @@ pub enum AdminCommand {
     Report,
     /// The end of the run.
     Stop,
-    /// A new configuration.
+    /// Another look at the files of the configuration.
     Reload,
+    /// Which files those are.
+    Files,
 }
 
 impl AdminCommand {
     /// The line that asks for it.
-    pub(crate) fn line(self) -> &'static [u8] {
+    pub(crate) fn line(self) -> &'static [u8]
+        ensures { result.now ≡ line_of self }
+    {
         match self {
             AdminCommand::Report => b"report\n".as_slice(),
             AdminCommand::Stop => b"stop\n".as_slice(),
             AdminCommand::Reload => b"reload\n".as_slice(),
+            AdminCommand::Files => b"files\n".as_slice(),
         }
     }
 }
@@ -42,7 +48,14 @@ impl AdminCommand {
 pub fn command_in(sent: &[u8]) -> Option<AdminCommand>
     ensures { result ≡ command_in sent.now }
 {
-    command_of(without_return(first_line(sent)))
+    command_of(first_line_of(sent))
+}
+
+/// The bytes up to the first byte 10, or all if there is none, without one byte 13 at their end.
+pub(crate) fn first_line_of(sent: &[u8]) -> &[u8]
+    ensures { result.now ≡ command_text sent.now }
+{
+    without_return(first_line(sent))
 }
 
 /// The command of a text, if it is one.
@@ -55,6 +68,8 @@ fn command_of(text: &[u8]) -> Option<AdminCommand>
         Some(AdminCommand::Stop)
     } else if text == b"reload".as_slice() {
         Some(AdminCommand::Reload)
+    } else if text == b"files".as_slice() {
+        Some(AdminCommand::Files)
     } else {
         None
     }
@@ -70,7 +85,8 @@ fn first_line(sent: &[u8]) -> &[u8]
     }
 }
 
-fn first_newline(sent: &[u8]) -> Option<usize>
+/// The place of the first byte 10, if there is one.
+pub(crate) fn first_newline(sent: &[u8]) -> Option<usize>
     ensures { result ≡ position is_newline sent.now }
 {
     sent.iter().position(|byte| *byte == b'\n')

@@ -1,31 +1,36 @@
 //! Why a relay was not asked, or did not answer.
 
 use relay_base::NoMemory;
+use std::io::ErrorKind;
 use thiserror::Error;
 
-/// Why a command was not carried out. Its text is what follows `relayd: ` on standard error.
+/// Why a command was not carried out. Its text is what follows `relayd: admin: ` and the address on standard error; that of
+/// `Output` and `NoMemory` follows `relayd: `.
 #[derive(Clone, Copy, Debug, Error)]
 pub enum AdminFault {
     /// Nothing listens at the port, or the system refused a connection.
-    #[error("admin: cannot connect")]
-    CannotConnect,
+    #[error("{reason}")]
+    CannotConnect { reason: ErrorKind },
     /// The command could not be sent, or the connection ended without an answer: a relay has not read the command.
-    #[error("admin: no answer")]
+    #[error("no answer")]
     NoAnswer,
     /// No whole answer came in time: a relay may still carry out the command.
-    #[error("admin: no answer in time")]
+    #[error("no answer in time")]
     NotInTime,
     /// The connection ended within an answer of a relay.
-    #[error("admin: answer cut off")]
+    #[error("answer cut off")]
     CutOff,
+    /// The relay takes commands only with its key.
+    #[error("wrong key")]
+    WrongKey,
     /// What listens at the port does not know the command.
-    #[error("admin: unknown command")]
+    #[error("unknown command")]
     UnknownCommand,
     /// What listens at the port answered as no relay does.
-    #[error("admin: no relay")]
+    #[error("no relay")]
     NoRelay,
     /// The relay took `stop`, and has not ended within a day.
-    #[error("admin: still running")]
+    #[error("still running")]
     StillRunning,
     /// The output could not be written.
     #[error("output")]

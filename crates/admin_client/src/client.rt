@@ -2,7 +2,8 @@
 
 use crate::admin_command::AdminCommand;
 use crate::admin_fault::AdminFault;
-use crate::connection::{ANSWER_TIMEOUT_MS, RELOAD_TIMEOUT_MS, exchange, wait_for_end};
+use crate::admin_key::request_of;
+use crate::connection::{exchange, wait_for_end};
 use std::alloc::Global;
 use std::io::{Read, Write};
 use std::net::{Ipv4Addr, Net, OpenStream, SocketAddr};
@@ -12,76 +13,132 @@ use std::time::Duration;
 /// How many milliseconds the system has to connect.
 const CONNECT_TIMEOUT_MS: u64 = 5_000;
 
-/// Sends a command to the relay whose admin port this is, and copies its answer to the output.
+/// A relay, by its admin port on this machine, and the key of that, if it has one.
+#[derive(Clone, Copy)]
+pub struct RelayAt<'k> {
+    /// The port.
+    pub port: u16,
+    /// The key.
+    pub key: Option<&'k [u8]>,
+}
+
+impl RelayAt<'_> {
+    /// The same relay, as one without a key.
+    fn without_key(self) -> RelayAt<'static> {
+        RelayAt {
+            port: self.port,
+            key: None,
+        }
+    }
+}
+
+/// Sends a command to a relay, and copies its answer to the output.
 ///
 /// Refuses a port at which nothing listens, and all that is not the whole answer of a relay, within some seconds; then it
 /// has written nothing.
 pub fn ask<R: Net + Clock, W: Write>(
     rt: &R,
     alloc: Global,
-    port: u16,
+    relay: RelayAt<'_>,
     command: AdminCommand,
     output: &mut W,
 ) -> Result<(), AdminFault> {
-    let mut stream = connect(rt, port)?;
-    let asked = exchange(
-        rt,
-        alloc,
-        &mut stream,
-        command,
-        command.line(),
-        ANSWER_TIMEOUT_MS,
-    );
-    drop(stream);
-    let answer = asked?;
+    let answer = answer_to(rt, alloc, relay, command)?;
     let written = write_answer(answer.as_slice(), output);
     drop(answer);
     written
 }
 
-/// Sends a request for a reload ([`crate::reload_request`]) to the relay whose admin port this is, and returns its answer,
-/// which `reload_answer_in` reads.
+/// Sends a command to a relay, and returns its answer. That to `reload` may take about a minute, and `reload_answer_in` reads
+/// it; `reload_files_in` reads that to `files`.
 ///
-/// Refuses a port at which nothing listens, and all that is not the whole answer of a relay, within about a minute.
-pub fn ask_reload<R: Net + Clock>(
+/// Refuses a port at which nothing listens, and all that is not the whole answer of a relay. A relay without a key does not
+/// know a command behind one, and is asked again.
+pub fn answer_to<R: Net + Clock>(
     rt: &R,
     alloc: Global,
-    port: u16,
-    request: &str,
+    relay: RelayAt<'_>,
+    command: AdminCommand,
 ) -> Result<Vec<u8>, AdminFault> {
-    let mut stream = connect(rt, port)?;
-    let asked = exchange(
-        rt,
-        alloc,
-        &mut stream,
-        AdminCommand::Reload,
-        request.as_bytes(),
-        RELOAD_TIMEOUT_MS,
-    );
-    drop(stream);
+    match answer_once(rt, alloc, relay, command) {
+        Err(AdminFault::UnknownCommand) if relay.key.is_some() => {
+            answer_once(rt, alloc, relay.without_key(), command)
+        }
+        asked => asked,
+    }
+}
+
+/// Sends a command to a relay once, and returns its answer.
+fn answer_once<R: Net + Clock>(
+    rt: &R,
+    alloc: Global,
+    relay: RelayAt<'_>,
+    command: AdminCommand,
+) -> Result<Vec<u8>, AdminFault> {
+    let request = request_of(alloc, relay.key, command)?;
+    let asked = match connect(rt, relay.port) {
+        Ok(mut stream) => {
+            let asked = exchange(rt, alloc, &mut stream, command, request.as_slice());
+            drop(stream);
+            asked
+        }
+        Err(fault) => Err(fault),
+    };
+    drop(request);
     asked
 }
 
-/// Stops the relay whose admin port this is, copies its answer to the output, and returns when it has ended.
+/// Stops a relay, copies its answer to the output, and returns when it has ended.
 ///
 /// Refuses what [`ask`] refuses, and a relay that has not ended within a day. If the output fails, it waits all the same,
 /// and refuses then.
 pub fn stop_and_wait<R: Net + Clock, W: Write>(
     rt: &R,
     alloc: Global,
+    relay: RelayAt<'_>,
+    output: &mut W,
+) -> Result<(), AdminFault> {
+    match stop_once(rt, alloc, relay, output) {
+        Err(AdminFault::UnknownCommand) if relay.key.is_some() => {
+            stop_once(rt, alloc, relay.without_key(), output)
+        }
+        ended => ended,
+    }
+}
+
+/// Stops a relay by one request, and returns when it has ended.
+fn stop_once<R: Net + Clock, W: Write>(
+    rt: &R,
+    alloc: Global,
+    relay: RelayAt<'_>,
+    output: &mut W,
+) -> Result<(), AdminFault> {
+    let request = request_of(alloc, relay.key, AdminCommand::Stop)?;
+    let ended = send_stop(rt, alloc, relay.port, request.as_slice(), output);
+    drop(request);
+    ended
+}
+
+/// Sends a request to stop, and returns when the relay has ended.
+fn send_stop<R: Net + Clock, W: Write>(
+    rt: &R,
+    alloc: Global,
     port: u16,
+    request: &[u8],
     output: &mut W,
 ) -> Result<(), AdminFault> {
     let mut stream = connect(rt, port)?;
     // A relay that was told to stop leaves alone who is silent then, and closes its admin port as its last act. Another
     // relay that listens there afterwards has nothing to do with this connection.
     let connected = connect(rt, port);
-    let Ok(mut waiting) = connected else {
-        drop(stream);
-        return Err(AdminFault::CannotConnect);
+    let mut waiting = match connected {
+        Ok(waiting) => waiting,
+        Err(fault) => {
+            drop(stream);
+            return Err(fault);
+        }
     };
-    let stop = AdminCommand::Stop;
-    let asked = exchange(rt, alloc, &mut stream, stop, stop.line(), ANSWER_TIMEOUT_MS);
+    let asked = exchange(rt, alloc, &mut stream, AdminCommand::Stop, request);
     drop(stream);
     let ended = match asked {
         Ok(answer) => write_and_wait(answer, &mut waiting, output),
@@ -116,6 +173,8 @@ fn connect<R: Net>(rt: &R, port: u16) -> Result<R::Stream, AdminFault> {
     let address = SocketAddr::from((Ipv4Addr::LOCALHOST, port));
     match rt.connect_timeout(address, Duration::from_millis(CONNECT_TIMEOUT_MS)) {
         Ok(stream) => Ok(stream),
-        Err(_) => Err(AdminFault::CannotConnect),
+        Err(error) => Err(AdminFault::CannotConnect {
+            reason: error.kind(),
+        }),
     }
 }

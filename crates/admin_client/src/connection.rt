@@ -11,10 +11,10 @@ use std::rt::Clock;
 use std::time::{Duration, Instant};
 
 /// How many milliseconds a relay has to take a command, and then to answer it.
-pub(crate) const ANSWER_TIMEOUT_MS: u64 = 10_000;
+const ANSWER_TIMEOUT_MS: u64 = 10_000;
 
-/// How many milliseconds it has to answer `reload`: it reads the new files, and makes a plan for each receiver.
-pub(crate) const RELOAD_TIMEOUT_MS: u64 = 60_000;
+/// How many milliseconds it has to answer `reload`: it reads its files, and makes a plan for each receiver.
+const RELOAD_TIMEOUT_MS: u64 = 60_000;
 
 /// The room for a piece of an answer, in bytes.
 const ROOM: usize = 4_096;
@@ -25,20 +25,19 @@ const MOST_READS: usize = 1_024;
 /// The greatest number of reads, each of a second, that wait for the end of a relay: those of a day.
 const MOST_WAITS: usize = 86_400;
 
-/// Sends the text of a command, and returns its answer, up to its end, which comes within this number of milliseconds.
+/// Sends a request for a command, and returns its answer, up to its end, which comes in time.
 pub(crate) fn exchange<R: Clock, S: Read + Write + OpenStream>(
     rt: &R,
     alloc: Global,
     stream: &mut S,
     command: AdminCommand,
-    text: &[u8],
-    millis: u64,
+    request: &[u8],
 ) -> Result<Vec<u8>, AdminFault> {
-    if send(stream, text).is_err() {
+    if send(stream, request).is_err() {
         return Err(AdminFault::NoAnswer);
     }
     let mut answer = Vec::new(alloc);
-    match read_answer(rt, stream, &mut answer, millis) {
+    match read_answer(rt, stream, &mut answer, timeout_of(command)) {
         Ok(()) => {}
         Err(fault) => {
             drop(answer);
@@ -51,6 +50,14 @@ pub(crate) fn exchange<R: Clock, S: Read + Write + OpenStream>(
             drop(answer);
             Err(fault)
         }
+    }
+}
+
+/// How many milliseconds the answer to a command may take.
+fn timeout_of(command: AdminCommand) -> u64 {
+    match command {
+        AdminCommand::Reload => RELOAD_TIMEOUT_MS,
+        _ => ANSWER_TIMEOUT_MS,
     }
 }
 

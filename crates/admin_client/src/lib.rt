@@ -2,8 +2,9 @@
 //!
 //! - [`ask`] sends a command, and copies the answer to an output.
 //! - [`stop_and_wait`] sends `stop`, copies the answer, and returns when the relay has ended.
-//! - [`ask_reload`] sends `reload` with the files that it names, and returns the answer, which [`reload_answer_in`] reads.
-//! - [`command_in`] reads a command, and [`reload_files_in`] the files of a `reload`, for the relay's side.
+//! - [`answer_to`] sends a command and returns the answer: [`reload_answer_in`] reads that to `reload`, and
+//!   [`reload_files_in`] that to `files`.
+//! - [`asked_in`] reads what a connection asks for, and [`files_answer`] makes the answer to `files`, for the relay's side.
 //!
 //! Each call takes some seconds at most for a relay that does not answer, and is proved safe and returning.
 //! `specs/AdminCommand.antt` says which command the bytes of a connection are, and `specs/AdminAnswer.antt` what answers
@@ -17,15 +18,15 @@
 mod admin_answer;
 mod admin_command;
 mod admin_fault;
+mod admin_key;
 mod client;
 mod connection;
 mod reload_answer;
 mod reload_files;
 
-pub use admin_command::{AdminCommand, LONGEST_COMMAND, STOPPING, UNKNOWN_COMMAND, command_in};
+pub use admin_command::{AdminCommand, LONGEST_COMMAND, STOPPING, UNKNOWN_COMMAND};
 pub use admin_fault::AdminFault;
-pub use client::{ask, ask_reload, stop_and_wait};
+pub use admin_key::{Asked, LEAST_KEY, LONGEST_KEY, WRONG_KEY, asked_in, behind_key, key_in};
+pub use client::{RelayAt, answer_to, ask, stop_and_wait};
 pub use reload_answer::{RELOADED, Refusal, ReloadAnswer, reload_answer_in};
-pub use reload_files::{
-    LONGEST_REQUEST, ReloadFiles, can_be_named, reload_files_in, reload_request,
-};
+pub use reload_files::{ReloadFiles, can_be_named, files_answer, reload_files_in};

@@ -4,8 +4,11 @@ ghost use Rattle.std.specs.Prelude.{◌≡◌, None, Some, MatchOption};
 ghost use Rattle.admin_client.specs.ReloadAnswer.{Refused, words_of, behind, reload_end, refusal_in};
 ghost use Rattle.admin_client.specs.ReloadText.{end_of};
 
-/// The answer to `reload` of a relay that runs by the new files.
+/// The answer to `reload` of a relay that runs by what its files say now, if it has no memory to say what changed.
 pub const RELOADED: &[u8] = b"reloaded\n";
+
+/// The words before what changed.
+const RELOADED_WORDS: &[u8] = b"reloaded: ";
 
 /// Why a relay goes on as it was: by the status with which the command ends.
 #[derive(Clone, Copy)]
@@ -34,24 +37,23 @@ impl Refusal {
 /// What a relay answers to `reload`.
 #[derive(Clone, Copy)]
 pub enum ReloadAnswer<'a> {
-    /// It runs by the new files.
+    /// It runs by what its files say now.
     Reloaded,
     /// It goes on as it was.
     Refused {
         /// Why.
         refusal: Refusal,
-        /// The reason, up to the first byte 10, and behind it the notes, a line each.
+        /// The reason, up to the first byte 10.
         text: &'a [u8],
     },
 }
 
-/// What an answer to `reload` says, if it is one: `reloaded` and byte 10; or `refused`, a status, and the reason in the same
-/// line, with a line for each note behind it.
+/// What an answer to `reload` says, if it is one: `reloaded` and what changed; or `refused`, a status, and the reason.
 pub fn reload_answer_in(answer: &[u8]) -> Option<ReloadAnswer<'_>>
     ensures { MatchOption result (reload_end answer.now ≡ None)
         (λ said. reload_end answer.now ≡ Some (end_of said)) }
 {
-    if answer == RELOADED {
+    if answer == RELOADED || behind(RELOADED_WORDS, answer).is_some() {
         return Some(ReloadAnswer::Reloaded);
     }
     refusal_in(answer)

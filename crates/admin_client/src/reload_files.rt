@@ -1,19 +1,15 @@
-//! The files that a reload names.
+//! The files that a relay reads at a reload.
 
 ghost use Rattle.std.specs.Prelude.{◌≡◌, ◌++◌, None, Some, option_map, IfOk, OnOk, MatchOption};
 ghost use Rattle.std.specs.String.{string_bytes};
-ghost use Rattle.admin_client.specs.ReloadRequest.{value_in, text_in, files_in, request_of, value_line, can_be_named};
+ghost use Rattle.admin_client.specs.FilesAnswer.{value_in, text_in, files_in, answer_of, value_line, can_be_named};
 ghost use Rattle.admin_client.specs.ReloadNames.{names_of};
 
 use crate::reload_answer::behind;
 use relay_base::{NoMemory, utf8_text};
 use std::alloc::Global;
 
-/// How many bytes the text that asks for a reload has at most: three paths of 4,096 bytes, and the words before them. A longer
-/// one is none.
-pub const LONGEST_REQUEST: usize = 16_384;
-
-/// The words before each value of a request, a line each.
+/// The words before each value of an answer, a line each.
 const CONFIG: &str = "config ";
 
 const RULES: &str = "rules ";
@@ -22,7 +18,7 @@ const REWRITE: &str = "rewrite ";
 
 const LONGEST_NAME: &str = "longest-name ";
 
-/// The files that a reload names, by paths from the root on, and the limit on names that comes with them.
+/// The files that a relay reads at a reload, by paths from the root on, and the limit on names that comes with them.
 #[derive(Clone, Copy)]
 pub struct ReloadFiles<'a> {
     /// The configuration file.
@@ -35,8 +31,7 @@ pub struct ReloadFiles<'a> {
     pub longest_name: Option<&'a str>,
 }
 
-/// The files that a request for a reload names; `None` if it names no configuration file: then those that the run began with
-/// are read again. A value that is not UTF-8 is none.
+/// The files that an answer to `files` names; `None` if it names no configuration file. A value that is not UTF-8 is none.
 pub fn reload_files_in(sent: &[u8]) -> Option<ReloadFiles<'_>>
     ensures { option_map names_of result ≡ files_in sent.now }
 {
@@ -48,14 +43,14 @@ pub fn reload_files_in(sent: &[u8]) -> Option<ReloadFiles<'_>>
     })
 }
 
-/// The text that a request has under these words.
+/// The text that an answer has under these words.
 fn text_in<'a>(words: &str, sent: &'a [u8]) -> Option<&'a str>
     ensures { option_map (λ text. text.now) result ≡ text_in words.now sent.now }
 {
     utf8_text(value_in(words.as_bytes(), sent)?)
 }
 
-/// What a request has behind these words, in the first line that begins with them.
+/// What an answer has behind these words, in the first line that begins with them.
 fn value_in<'a>(words: &[u8], sent: &'a [u8]) -> Option<&'a [u8]>
     ensures { MatchOption result (value_in words.now sent.now ≡ None)
         (λ value. value_in words.now sent.now ≡ Some value.now) }
@@ -68,18 +63,15 @@ fn value_in<'a>(words: &[u8], sent: &'a [u8]) -> Option<&'a [u8]>
     None
 }
 
-/// The text that asks for a reload by these files, or by those that the run began with. Refuses if out of memory. The values
-/// have no byte 10 ([`can_be_named`]).
-pub fn reload_request(alloc: Global, files: Option<ReloadFiles<'_>>) -> Result<String, NoMemory>
-    ensures { IfOk result (λ text. string_bytes text ≡ request_of (option_map names_of files.entry)) }
+/// The answer to `files` that names these. Refuses if out of memory. The values have no byte 10 ([`can_be_named`]).
+pub fn files_answer(alloc: Global, files: ReloadFiles<'_>) -> Result<String, NoMemory>
+    ensures { IfOk result (λ text. string_bytes text ≡ answer_of (names_of files.entry)) }
 {
-    let mut text = String::from_str(alloc, "reload\n")?;
-    if let Some(files) = files {
-        push_value(&mut text, CONFIG, Some(files.config))?;
-        push_value(&mut text, RULES, files.rules)?;
-        push_value(&mut text, REWRITE, files.rewrite)?;
-        push_value(&mut text, LONGEST_NAME, files.longest_name)?;
-    }
+    let mut text = String::new(alloc);
+    push_value(&mut text, CONFIG, Some(files.config))?;
+    push_value(&mut text, RULES, files.rules)?;
+    push_value(&mut text, REWRITE, files.rewrite)?;
+    push_value(&mut text, LONGEST_NAME, files.longest_name)?;
     Ok(text)
 }
 
@@ -96,8 +88,7 @@ fn push_value(text: &mut String, words: &str, value: Option<&str>) -> Result<(),
     Ok(text.push_str("\n")?)
 }
 
-/// Whether a path can be sent to a relay, whose working directory is another: it is from the root on, and has no byte 10 and at
-/// most 4,096 bytes.
+/// Whether a path can be named to another process: it is from the root on, and has no byte 10 and at most 4,096 bytes.
 pub fn can_be_named(path: &str) -> bool
     ensures { result ≡ can_be_named path.now }
 {

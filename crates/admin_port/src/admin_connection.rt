@@ -3,11 +3,11 @@
 ghost use Rattle.std.specs.Prelude.{◌≤◌, length};
 
 use admin_client::{
-    AdminCommand, LONGEST_COMMAND, LONGEST_REQUEST, RELOADED, STOPPING, UNKNOWN_COMMAND, command_in,
+    AdminCommand, Asked, LONGEST_COMMAND, LONGEST_KEY, RELOADED, STOPPING, UNKNOWN_COMMAND,
+    WRONG_KEY, asked_in, behind_key,
 };
 use mio::net::TcpStream;
 use mio_loops::exchange::{MOST_TRIES, PATIENCE_MS, Transfer, read_away};
-use std::alloc::Global;
 use std::io::{Read, Write};
 use std::mem;
 use std::net::Shutdown;
@@ -15,16 +15,17 @@ use std::net::Shutdown;
 /// How many milliseconds a connection has to send its command, or to close, if others wait for its place.
 pub(crate) const LEAST_PATIENCE_MS: u64 = 100;
 
-/// The room for a command: its text, a byte 13 and a byte 10.
-const COMMAND_ROOM: usize = LONGEST_COMMAND + 2;
+/// The room for a command: its text, a byte 13 and a byte 10; and before it a line with the key, behind the four bytes of its
+/// word.
+const COMMAND_ROOM: usize = LONGEST_KEY + LONGEST_COMMAND + 8;
 
 /// The state of a connection.
 #[derive(Clone, Copy)]
 enum AdminStage {
     /// Its command is being read.
     Command,
-    /// Its command is `reload`, and the lines behind that are being read, up to the end.
-    Request,
+    /// Its command is `reload`, and the end of what its peer sends has not come.
+    Ending,
     /// It has asked for a reload, which has not begun.
     Asking,
     /// It has asked for a reload, which is under way.
@@ -42,8 +43,8 @@ pub(crate) enum Progress {
     Waits,
     /// It is to be closed.
     Over,
-    /// This command was read to its end, or what is none, and is to be answered.
-    Asks(Option<AdminCommand>),
+    /// What it asks for was read to its end, and is to be answered.
+    Asks(Asked),
 }
 
 /// A connection that sends one command and takes its answer, both in time.
@@ -54,8 +55,8 @@ pub(crate) struct AdminConnection {
     // The bytes of the command so far, and how many they are.
     room: [u8; COMMAND_ROOM],
     count: usize,
-    // All that was sent, if the command is `reload`.
-    request: Vec<u8>,
+    // What is answered once the reload that it has asked for is done.
+    after_reload: Answer,
     // The answer, and how many bytes of it were taken.
     answer: Answer,
     written: usize,
@@ -76,7 +77,9 @@ pub(crate) enum Answer {
     Stopping,
     /// What was sent is no command.
     UnknownCommand,
-    /// The relay runs by the new files.
+    /// What was sent is a command without the key.
+    WrongKey,
+    /// The relay runs by what its files say now.
     Reloaded,
     /// There is no memory for a reload.
     NoMemory,
@@ -90,6 +93,7 @@ impl Answer {
             Answer::Nothing => b"".as_slice(),
             Answer::Stopping => STOPPING,
             Answer::UnknownCommand => UNKNOWN_COMMAND,
+            Answer::WrongKey => WRONG_KEY,
             Answer::Reloaded => RELOADED,
             Answer::NoMemory => b"refused 4 no memory\n".as_slice(),
             Answer::Text(text) => text.as_slice(),
@@ -99,18 +103,13 @@ impl Answer {
 
 impl AdminConnection {
     /// A connection of a number, which was taken at these milliseconds.
-    pub(crate) fn new(
-        alloc: Global,
-        stream: TcpStream,
-        number: u64,
-        millis: u64,
-    ) -> AdminConnection {
+    pub(crate) fn new(stream: TcpStream, number: u64, millis: u64) -> AdminConnection {
         AdminConnection {
             stream,
             stage: AdminStage::Command,
             room: [0u8; COMMAND_ROOM],
             count: 0,
-            request: Vec::new(alloc),
+            after_reload: Answer::Reloaded,
             answer: Answer::Nothing,
             written: 0,
             since: millis,
@@ -149,11 +148,11 @@ impl AdminConnection {
     }
 
     /// Whether nothing more has come of its command, after another look.
-    pub(crate) fn has_nothing_new(&mut self) -> bool {
+    pub(crate) fn has_nothing_new(&mut self, key: Option<&[u8]>) -> bool {
         match self.stage {
             AdminStage::Command => {
                 let before = self.count;
-                matches!(self.read_command(), Progress::Waits) && self.count == before
+                matches!(self.read_command(key), Progress::Waits) && self.count == before
             }
             _ => true,
         }
@@ -164,11 +163,12 @@ impl AdminConnection {
         millis.saturating_sub(self.since) >= patience
     }
 
-    /// Goes on as far as it can without waiting. A connection whose time is over, at these milliseconds, is to be closed.
-    pub(crate) fn go_on(&mut self, millis: u64) -> Progress {
+    /// Goes on as far as it can without waiting, at a port with this key, or without one. A connection whose time is over, at
+    /// these milliseconds, is to be closed.
+    pub(crate) fn go_on(&mut self, key: Option<&[u8]>, millis: u64) -> Progress {
         let progress = match self.stage {
-            AdminStage::Command => self.read_command(),
-            AdminStage::Request => self.read_request(),
+            AdminStage::Command => self.read_command(key),
+            AdminStage::Ending => self.read_end(),
             AdminStage::Asking | AdminStage::Pending => Progress::Waits,
             AdminStage::Answer => self.write_answer(millis),
             AdminStage::End => self.read_away(),
@@ -190,10 +190,25 @@ impl AdminConnection {
         matches!(self.stage, AdminStage::Asking)
     }
 
-    /// The reload that it has asked for begins. Returns all that it has sent.
-    pub(crate) fn begin_reload(&mut self, alloc: Global) -> Vec<u8> {
+    /// Whether it has asked for a reload that is under way.
+    pub(crate) fn is_reloading(&self) -> bool {
+        matches!(self.stage, AdminStage::Pending)
+    }
+
+    /// The reload that it has asked for begins.
+    pub(crate) fn begin_reload(&mut self) {
         self.stage = AdminStage::Pending;
-        mem::replace(&mut self.request, Vec::new(alloc))
+    }
+
+    /// What it is answered once its reload is done ([`AdminConnection::end_reload`]).
+    pub(crate) fn keep_answer(&mut self, text: Vec<u8>) {
+        self.after_reload = Answer::Text(text);
+    }
+
+    /// The reload that it has asked for is done. It takes no memory.
+    pub(crate) fn end_reload(&mut self, millis: u64) {
+        let answer = mem::replace(&mut self.after_reload, Answer::Nothing);
+        self.begin_answer(answer, millis);
     }
 
     /// Gives it this answer to take.
@@ -203,16 +218,16 @@ impl AdminConnection {
         self.since = millis;
     }
 
-    /// Reads until there is a byte 10, the end of what its peer sends, or no more room.
-    fn read_command(&mut self) -> Progress {
+    /// Reads until there is the byte 10 of a command, the end of what its peer sends, or no more room.
+    fn read_command(&mut self, key: Option<&[u8]>) -> Progress {
         for _ in 0..MOST_TRIES {
             let count = self.count.min(COMMAND_ROOM);
-            if count == COMMAND_ROOM || self.room[..count].contains(&b'\n') {
-                return self.end_command();
+            if count == COMMAND_ROOM || behind_key(&self.room[..count]).contains(&b'\n') {
+                return self.end_command(key);
             }
             match Transfer::of(self.stream.read(&mut self.room[count..])) {
                 Transfer::Bytes(more) => self.count = count.saturating_add(more),
-                Transfer::End => return self.end_command(),
+                Transfer::End => return self.end_command(key),
                 Transfer::Blocked => return Progress::Waits,
                 Transfer::Failed => return Progress::Over,
             }
@@ -220,43 +235,32 @@ impl AdminConnection {
         Progress::Waits
     }
 
-    /// The command has come. One for a reload goes on up to the end of what its peer sends.
-    fn end_command(&mut self) -> Progress {
-        let count = self.count.min(COMMAND_ROOM);
-        let command = command_in(&self.room[..count]);
-        let Some(AdminCommand::Reload) = command else {
-            return Progress::Asks(command);
+    /// The command has come. One for a reload stands alone: it goes on up to the end of what its peer sends.
+    fn end_command(&mut self, key: Option<&[u8]>) -> Progress {
+        let sent = &self.room[..self.count.min(COMMAND_ROOM)];
+        let asked = asked_in(key, sent);
+        let Asked::Command(AdminCommand::Reload) = asked else {
+            return Progress::Asks(asked);
         };
-        if self.request.extend_from_slice(&self.room[..count]).is_err() {
-            return Progress::Over;
+        if has_more(behind_key(sent)) {
+            return Progress::Asks(Asked::Unknown);
         }
-        self.stage = AdminStage::Request;
-        self.read_request()
+        self.stage = AdminStage::Ending;
+        self.read_end()
     }
 
-    /// Reads the lines behind `reload`, up to the end. More than a request may have is no command.
-    fn read_request(&mut self) -> Progress {
-        let mut room = [0u8; 1024];
-        for _ in 0..MOST_TRIES {
-            if self.request.len() > LONGEST_REQUEST {
-                return Progress::Asks(None);
+    /// Reads the end of what its peer sends. What has more behind `reload`, such as names of files, is no command.
+    fn read_end(&mut self) -> Progress {
+        let mut room = [0u8; 1];
+        match Transfer::of(self.stream.read(&mut room)) {
+            Transfer::Bytes(_) => Progress::Asks(Asked::Unknown),
+            Transfer::End => {
+                self.stage = AdminStage::Asking;
+                Progress::Waits
             }
-            match Transfer::of(self.stream.read(&mut room)) {
-                Transfer::Bytes(count) => {
-                    let count = count.min(room.len());
-                    if self.request.extend_from_slice(&room[..count]).is_err() {
-                        return Progress::Over;
-                    }
-                }
-                Transfer::End => {
-                    self.stage = AdminStage::Asking;
-                    return Progress::Waits;
-                }
-                Transfer::Blocked => return Progress::Waits,
-                Transfer::Failed => return Progress::Over,
-            }
+            Transfer::Blocked => Progress::Waits,
+            Transfer::Failed => Progress::Over,
         }
-        Progress::Waits
     }
 
     /// Writes what its peer takes of the answer. After the last byte it closes its side.
@@ -288,5 +292,13 @@ impl AdminConnection {
         } else {
             Progress::Waits
         }
+    }
+}
+
+/// Whether there is something behind the first line.
+fn has_more(sent: &[u8]) -> bool {
+    match sent.iter().position(|byte| *byte == b'\n') {
+        Some(place) => place.saturating_add(1) < sent.len(),
+        None => false,
     }
 }

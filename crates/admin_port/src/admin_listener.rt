@@ -1,7 +1,7 @@
 //! The listener of the admin port, and its connections.
 
 use crate::admin_connection::{AdminConnection, Answer, Progress};
-use admin_client::AdminCommand;
+use admin_client::{AdminCommand, Asked};
 use mio::Poll;
 use mio::net::{TcpListener, TcpStream};
 use mio_loops::{Readiness, ReadinessFault, Token};
@@ -29,19 +29,25 @@ const PAUSE_MS: u64 = 100;
 /// How many milliseconds a turn waits at most while others wait for a place.
 const SHORT_PAUSE_MS: u64 = 10;
 
-/// A reload that a connection has asked for.
-#[derive(Drop)]
-pub struct AskedReload {
-    /// The number of the connection, which waits for the answer.
-    pub connection: u64,
-    /// All that it has sent: `reload`, and a line for each file (`admin_client::reload_files_in`).
-    pub request: Vec<u8>,
-}
-
 /// Answers the commands.
 pub trait Answers<R> {
     /// The answer to `report`. Refuses if out of memory.
     fn report(&self, rt: &R, alloc: Global) -> Result<Vec<u8>, NoMemory>;
+
+    /// The answer to `files`. Refuses if out of memory.
+    fn files(&self, alloc: Global) -> Result<Vec<u8>, NoMemory>;
+
+    /// The key that each command needs, if there is one.
+    fn key(&self) -> Option<&[u8]>;
+}
+
+/// How many connections were refused what they asked for.
+#[derive(Clone, Copy, PartialEq)]
+pub struct Refusals {
+    /// What they sent is no command.
+    pub unknown: u64,
+    /// They sent a command without the key.
+    pub keyless: u64,
 }
 
 /// The listener of the admin port, with its connections.
@@ -56,6 +62,7 @@ pub struct AdminListener {
     next: Option<TcpStream>,
     // How many connections had a place.
     count: u64,
+    refusals: Refusals,
     is_stopping: bool,
 }
 
@@ -75,6 +82,10 @@ impl AdminListener {
             slots: Vec::new(alloc),
             next: None,
             count: 0,
+            refusals: Refusals {
+                unknown: 0,
+                keyless: 0,
+            },
             is_stopping: false,
         };
         match add_slots(&mut made.slots) {
@@ -87,8 +98,8 @@ impl AdminListener {
     }
 
     /// One turn: goes on with each connection, takes those that wait, and then waits for at most this number of
-    /// milliseconds, unless one has asked for a reload. Returns whether one of them asked for the end of the run; it has its
-    /// answer then.
+    /// milliseconds, unless one has asked for a reload and none is under way. Returns whether a connection has asked for the end
+    /// of the run, in this turn or before; it has its answer then.
     ///
     /// From the first such turn on it leaves alone the connections that have sent nothing: they end when the listener is
     /// dropped, so that a peer knows when the relay has ended.
@@ -102,29 +113,46 @@ impl AdminListener {
     ) -> bool {
         let is_stopped = self.go_on_with_all(rt, alloc, answers, millis);
         self.is_stopping = self.is_stopping || is_stopped;
-        let is_more = self.take_connections(rt, alloc, millis);
+        let is_more = self.take_connections(rt, answers.key(), millis);
         if self.is_stopping {
             self.leave_alone();
         }
         let pause = self.pause(pause, is_more);
-        let goes_on = is_stopped || self.oldest_asking().is_some();
+        let goes_on = is_stopped || self.oldest_asking().is_some() && !self.is_reloading();
         if !goes_on && self.readiness.wait(pause).is_err() {
             rt.sleep(Duration::from_millis(PAUSE_MS));
         }
-        is_stopped
+        self.is_stopping
     }
 
-    /// The oldest connection that has asked for a reload: it waits until that is answered ([`AdminListener::answer_reload`]).
-    /// Call it after each turn.
-    pub fn next_reload(&mut self, alloc: Global) -> Option<AskedReload> {
+    /// How many connections were refused what they asked for.
+    pub fn refusals(&self) -> Refusals {
+        self.refusals
+    }
+
+    /// The number of the oldest connection that has asked for a reload, which begins: the connection waits until that is
+    /// answered ([`AdminListener::answer_reload`]). Call it after each turn while no reload is under way.
+    pub fn next_reload(&mut self) -> Option<u64> {
         let place = self.oldest_asking()?;
         match self.slots.get_mut(place) {
-            Some(Some(connection)) => Some(AskedReload {
-                connection: connection.number(),
-                request: connection.begin_reload(alloc),
-            }),
+            Some(Some(connection)) => {
+                connection.begin_reload();
+                Some(connection.number())
+            }
             _ => None,
         }
+    }
+
+    /// Whether a reload is under way.
+    fn is_reloading(&self) -> bool {
+        for slot in self.slots.as_slice() {
+            if let Some(connection) = slot {
+                if connection.is_reloading() {
+                    return true;
+                }
+            }
+        }
+        false
     }
 
     /// The place of the oldest connection that has asked for a reload, which has not begun.
@@ -147,10 +175,23 @@ impl AdminListener {
         self.begin_answer(number, Answer::Text(text), millis);
     }
 
-    /// Answers the connection of this number, which has asked for a reload, that the relay runs by the new files. It takes no
-    /// memory.
+    /// Keeps what the connection of this number is answered once the reload that it has asked for is done.
+    pub fn keep_answer(&mut self, number: u64, text: Vec<u8>) {
+        if let Some(place) = self.place_of(number) {
+            if let Some(Some(connection)) = self.slots.get_mut(place) {
+                connection.keep_answer(text);
+            }
+        }
+    }
+
+    /// The reload that the connection of this number has asked for is done: it is answered what is kept for it, or that the
+    /// relay runs by its files. It takes no memory.
     pub fn answer_reloaded(&mut self, number: u64, millis: u64) {
-        self.begin_answer(number, Answer::Reloaded, millis);
+        if let Some(place) = self.place_of(number) {
+            if let Some(Some(connection)) = self.slots.get_mut(place) {
+                connection.end_reload(millis);
+            }
+        }
     }
 
     /// Answers the connection of this number, which has asked for a reload, that there is no memory for it. It takes none.
@@ -165,15 +206,23 @@ impl AdminListener {
 
     /// Gives the connection of this number an answer to take, if it is there.
     fn begin_answer(&mut self, number: u64, answer: Answer, millis: u64) {
-        for slot in self.slots.as_mut_slice().iter_mut() {
-            if let Some(connection) = slot {
+        if let Some(place) = self.place_of(number) {
+            if let Some(Some(connection)) = self.slots.get_mut(place) {
+                connection.begin_answer(answer, millis);
+            }
+        }
+    }
+
+    /// The place of the connection of this number, if it is there.
+    fn place_of(&self, number: u64) -> Option<usize> {
+        for place in 0..self.slots.len() {
+            if let Some(Some(connection)) = self.slots.get(place) {
                 if connection.number() == number {
-                    connection.begin_answer(answer, millis);
-                    return;
+                    return Some(place);
                 }
             }
         }
-        drop(answer);
+        None
     }
 
     /// For how many milliseconds a turn waits, if it may wait for this number, and others wait for a place.
@@ -206,28 +255,30 @@ impl AdminListener {
         millis: u64,
     ) -> bool {
         let mut is_stopped = false;
+        let mut refusals = self.refusals;
         for slot in self.slots.as_mut_slice().iter_mut() {
             let progress = match slot {
-                Some(connection) => go_on(connection, rt, alloc, answers, millis),
+                Some(connection) => go_on(connection, rt, alloc, answers, millis, &mut refusals),
                 None => continue,
             };
-            is_stopped = is_stopped || matches!(progress, Progress::Asks(Some(AdminCommand::Stop)));
+            is_stopped = is_stopped || matches!(progress, Progress::Asks(_));
             if matches!(progress, Progress::Over) {
                 put(slot, None);
             }
         }
+        self.refusals = refusals;
         is_stopped
     }
 
     /// Takes the connections that wait, as far as there are places. Returns whether others may wait.
-    fn take_connections<R: Net>(&mut self, rt: &R, alloc: Global, millis: u64) -> bool {
+    fn take_connections<R: Net>(&mut self, rt: &R, key: Option<&[u8]>, millis: u64) -> bool {
         if self.spare.is_none() {
             put(&mut self.spare, Poll::new(rt).ok());
         }
         for _ in 0..MOST_TAKEN {
-            match self.next_connection(millis) {
+            match self.next_connection(key, millis) {
                 AcceptOutcome::Stream(stream) => {
-                    if !self.keep(alloc, stream, millis) {
+                    if !self.keep(stream, key, millis) {
                         return true;
                     }
                 }
@@ -240,7 +291,7 @@ impl AdminListener {
 
     /// The connection that was taken before, or takes one. If the system has no descriptor for it, it gets the spare one,
     /// or that of the oldest connection that gives way.
-    fn next_connection(&mut self, millis: u64) -> AcceptOutcome {
+    fn next_connection(&mut self, key: Option<&[u8]>, millis: u64) -> AcceptOutcome {
         if let Some(stream) = self.next.take() {
             return AcceptOutcome::Stream(stream);
         }
@@ -250,7 +301,7 @@ impl AdminListener {
         }
         if self.spare.is_some() {
             put(&mut self.spare, None);
-        } else if let Some(place) = self.place_given_up(millis) {
+        } else if let Some(place) = self.place_given_up(key, millis) {
             self.close(place);
         }
         accepted_of(self.listener.accept())
@@ -258,24 +309,24 @@ impl AdminListener {
 
     /// Keeps a connection at a free place, or at that of the oldest one that gives way. Returns whether there is one; if
     /// not, it is the next.
-    fn keep(&mut self, alloc: Global, stream: TcpStream, millis: u64) -> bool {
+    fn keep(&mut self, stream: TcpStream, key: Option<&[u8]>, millis: u64) -> bool {
         let free = self.free_place();
         let place = match free {
             Some(place) => Some(place),
-            None => self.place_given_up(millis),
+            None => self.place_given_up(key, millis),
         };
         let Some(place) = place else {
             put(&mut self.next, Some(stream));
             return false;
         };
         self.close(place);
-        self.watch(alloc, stream, place, millis);
+        self.watch(stream, place, millis);
         true
     }
 
     /// Watches a connection under the number of its place, and keeps it there. One that the system does not watch is
     /// closed.
-    fn watch(&mut self, alloc: Global, stream: TcpStream, place: usize, millis: u64) {
+    fn watch(&mut self, stream: TcpStream, place: usize, millis: u64) {
         let mut stream = stream;
         let watched = self.readiness.add_stream(&mut stream, Token(place));
         if watched.is_err() {
@@ -284,10 +335,7 @@ impl AdminListener {
         let number = self.count;
         self.count = number.saturating_add(1);
         if let Some(slot) = self.slots.get_mut(place) {
-            put(
-                slot,
-                Some(AdminConnection::new(alloc, stream, number, millis)),
-            );
+            put(slot, Some(AdminConnection::new(stream, number, millis)));
         }
     }
 
@@ -309,12 +357,12 @@ impl AdminListener {
     }
 
     /// The place of the oldest connection that gives way at these milliseconds: after another look its command has not come.
-    fn place_given_up(&mut self, millis: u64) -> Option<usize> {
+    fn place_given_up(&mut self, key: Option<&[u8]>, millis: u64) -> Option<usize> {
         let mut least = 0;
         for _ in 0..MOST_CONNECTIONS {
             let place = self.oldest_from(least, millis)?;
             if let Some(Some(connection)) = self.slots.get_mut(place) {
-                if connection.has_nothing_new() {
+                if connection.has_nothing_new(key) {
                     return Some(place);
                 }
                 least = connection.number().saturating_add(1);
@@ -427,43 +475,69 @@ fn accepted_of(returned: io::Result<(TcpStream, SocketAddr)>) -> AcceptOutcome {
     }
 }
 
-/// Goes on with a connection, and answers its command. If there is no memory for a report, it is to be closed.
+impl Refusals {
+    /// The counts after a connection that asks for this.
+    fn after(self, asked: Asked) -> Refusals {
+        let Refusals { unknown, keyless } = self;
+        match asked {
+            Asked::Command(_) => self,
+            Asked::Unknown => Refusals {
+                unknown: unknown.saturating_add(1),
+                keyless,
+            },
+            Asked::WithoutKey => Refusals {
+                unknown,
+                keyless: keyless.saturating_add(1),
+            },
+        }
+    }
+}
+
+/// Goes on with a connection, and answers what it asks for, which is returned if it is the end of the run. If there is no memory
+/// for the answer, the connection is to be closed.
 fn go_on<R, A: Answers<R>>(
     connection: &mut AdminConnection,
     rt: &R,
     alloc: Global,
     answers: &A,
     millis: u64,
+    refusals: &mut Refusals,
 ) -> Progress {
-    let progress = connection.go_on(millis);
-    let Progress::Asks(command) = progress else {
+    let progress = connection.go_on(answers.key(), millis);
+    let Progress::Asks(asked) = progress else {
         return progress;
     };
-    let Some(answer) = answer_to(rt, alloc, answers, command) else {
+    let Some(answer) = answer_to(rt, alloc, answers, asked) else {
         return Progress::Over;
     };
     connection.begin_answer(answer, millis);
-    let after = connection.go_on(millis);
-    match command {
-        Some(AdminCommand::Stop) => progress,
+    *refusals = refusals.after(asked);
+    let after = connection.go_on(answers.key(), millis);
+    match asked {
+        Asked::Command(AdminCommand::Stop) => progress,
         _ => after,
     }
 }
 
-/// The answer to a command, or to what is none; `None` if there is no memory for a report.
-fn answer_to<R, A: Answers<R>>(
-    rt: &R,
-    alloc: Global,
-    answers: &A,
-    command: Option<AdminCommand>,
-) -> Option<Answer> {
+/// The answer to what is asked; `None` if there is no memory for it.
+fn answer_to<R, A: Answers<R>>(rt: &R, alloc: Global, answers: &A, asked: Asked) -> Option<Answer> {
+    let command = match asked {
+        Asked::Command(command) => command,
+        Asked::Unknown => return Some(Answer::UnknownCommand),
+        Asked::WithoutKey => return Some(Answer::WrongKey),
+    };
     match command {
-        Some(AdminCommand::Report) => match answers.report(rt, alloc) {
+        AdminCommand::Report => match answers.report(rt, alloc) {
             Ok(report) => Some(Answer::Text(report)),
             Err(_) => None,
         },
-        Some(AdminCommand::Stop) => Some(Answer::Stopping),
+        AdminCommand::Files => match answers.files(alloc) {
+            Ok(names) if names.is_empty() => Some(Answer::UnknownCommand),
+            Ok(names) => Some(Answer::Text(names)),
+            Err(_) => None,
+        },
+        AdminCommand::Stop => Some(Answer::Stopping),
         // A connection that asks for a reload waits for its answer elsewhere.
-        Some(AdminCommand::Reload) | None => Some(Answer::UnknownCommand),
+        AdminCommand::Reload => Some(Answer::UnknownCommand),
     }
 }

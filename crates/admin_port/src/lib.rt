@@ -9,4 +9,4 @@
 mod admin_connection;
 mod admin_listener;
 
-pub use admin_listener::{AdminListener, Answers, AskedReload};
+pub use admin_listener::{AdminListener, Answers, Refusals};

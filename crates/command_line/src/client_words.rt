@@ -2,6 +2,7 @@
 
 use crate::commands::{EXPLAIN, FILES};
 use crate::long_help::{RELOAD_HELP, REPORT_HELP, RESTART_HELP, STOP_HELP};
+use crate::options::path_option;
 use crate::words::{CommandWords, Form, Word};
 use clap::{ArgMatches, Error};
 use relay_base::whole_number_up_to;
@@ -14,7 +15,7 @@ pub(crate) static REPORT: CommandWords = CommandWords {
     about: "Prints the counts of a running relay, one line for each destination",
     long_help: REPORT_HELP,
     files: &[],
-    words: &[ADMIN],
+    words: &[ADMIN, ADMIN_KEY],
     choice: None,
 };
 
@@ -27,6 +28,7 @@ pub(crate) static STOP: CommandWords = CommandWords {
     files: &[],
     words: &[
         ADMIN,
+        ADMIN_KEY,
         Word {
             name: "wait",
             form: Form::Flag,
@@ -43,39 +45,18 @@ pub(crate) static RESTART: CommandWords = CommandWords {
     about: "Checks the files of a running relay, and stops it if they have no fault",
     long_help: RESTART_HELP,
     files: FILES,
-    words: &[EXPLAIN, ADMIN],
+    words: &[EXPLAIN, ADMIN, ADMIN_KEY],
     choice: None,
 };
 
-/// The words that `relayd reload` takes. Without a configuration file the relay reads those again that it began with.
+/// The words that `relayd reload` takes. The relay reads the files again that it began with.
 pub(crate) static RELOAD: CommandWords = CommandWords {
     name: "reload",
     full_name: "relayd reload",
-    about: "Has a running relay take a new configuration, without losing a datapoint",
+    about: "Has a running relay read its files again, without losing a datapoint",
     long_help: RELOAD_HELP,
-    files: &[
-        Word {
-            name: "config",
-            form: Form::Value("FILE"),
-            help: "The new configuration file; by default the files that the relay began with",
-        },
-        Word {
-            name: "rules",
-            form: Form::ValueWith("FILE", "config"),
-            help: "With --config: the relay rules",
-        },
-        Word {
-            name: "rewrite",
-            form: Form::ValueWith("FILE", "config"),
-            help: "With --config: the rewrite rules",
-        },
-        Word {
-            name: "longest-name",
-            form: Form::ValueWith("N", "config"),
-            help: "With --config: drops datapoints whose names have more than N characters, 1 to 4000",
-        },
-    ],
-    words: &[EXPLAIN, ADMIN],
+    files: &[],
+    words: &[EXPLAIN, ADMIN, ADMIN_KEY],
     choice: None,
 };
 
@@ -85,8 +66,34 @@ const ADMIN: Word = Word {
     help: "The admin port of the relay, 1 to 65535",
 };
 
-/// The port of `--admin` among the words of one of these commands.
-pub(crate) fn client_port(
+/// The option of all of these commands and of `run` that names the file of a key.
+pub(crate) const ADMIN_KEY: Word = Word {
+    name: "admin-key",
+    form: Form::Value("FILE"),
+    help: "A file of mode 600 or 640 whose first line is the key of the admin port",
+};
+
+/// The admin port of a running relay, and the file of its key, if one is named.
+#[derive(Drop)]
+pub struct AdminAt {
+    pub port: u16,
+    pub key: Option<String>,
+}
+
+/// The admin port among the words of one of these commands.
+pub(crate) fn admin_at(
+    alloc: Global,
+    options: &ArgMatches<'_>,
+    command: &CommandWords,
+) -> Result<AdminAt, Error> {
+    Ok(AdminAt {
+        port: client_port(alloc, options, command)?,
+        key: path_option(alloc, options, "admin-key")?,
+    })
+}
+
+/// The port of `--admin` among these words.
+fn client_port(
     alloc: Global,
     options: &ArgMatches<'_>,
     command: &CommandWords,

@@ -1,6 +1,6 @@
 //! The words that `relayd` and each of its commands take, with their help.
 
-use crate::client_words::{RELOAD, REPORT, RESTART, STOP};
+use crate::client_words::{ADMIN_KEY, RELOAD, REPORT, RESTART, STOP};
 use crate::long_help::{CHECK_HELP, PASS_HELP, RELAYD_HELP, REPLAY_HELP, ROUTE_HELP, RUN_HELP};
 use crate::words::{Choice, CommandWords, Form, Word};
 use clap::Command;
@@ -161,8 +161,9 @@ pub(crate) static RUN: CommandWords = CommandWords {
         Word {
             name: "admin",
             form: Form::NeededValue("PORT"),
-            help: "The port on 127.0.0.1 for the commands report and stop, 1 to 65535",
+            help: "The port on 127.0.0.1 for report, stop, restart and reload, 1 to 65535",
         },
+        ADMIN_KEY,
         Word {
             name: "senders",
             form: Form::ValueOr("N", "1"),
@@ -202,6 +203,11 @@ pub(crate) static RUN: CommandWords = CommandWords {
             name: "log",
             form: Form::Flag,
             help: "Writes events to standard error: connections made and lost, drops, bad input",
+        },
+        Word {
+            name: "log-format",
+            form: Form::Value("FORM"),
+            help: "Writes them as text, timed (with time and level), or json",
         },
         Word {
             name: "record",

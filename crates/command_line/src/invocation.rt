@@ -1,11 +1,10 @@
 //! What the words of a command line ask for.
 
-use crate::client_words::{RELOAD, REPORT, RESTART, STOP, client_port};
+use crate::client_words::{AdminAt, RELOAD, REPORT, RESTART, STOP, admin_at};
 use crate::commands::{CHECK, REPLAY, ROUTE, RUN, relayd_command};
 use crate::explain::Explain;
 use crate::options::{explain_option, moment_option, path_option, path_options, text_option};
 use crate::paths::Paths;
-use crate::reload_paths::reload_paths;
 use crate::run_options::{RunOptions, run_options};
 use crate::tips::with_tip;
 use clap::error::ErrorKind;
@@ -55,33 +54,34 @@ pub enum Invocation {
         names: String,
         explain: Explain,
     },
-    /// `run`: a relay of these files, the path of its record, and the directory of its spool, if any.
+    /// `run`: a relay of these files, the file of its admin port's key, the path of its record, and the directory of its spool,
+    /// if any.
     Run {
         paths: Paths,
         options: RunOptions,
+        admin_key: Option<String>,
         record: Option<String>,
         spool: Option<String>,
         explain: Explain,
     },
     /// `report`: what the relay with this admin port has counted.
     Report {
-        admin: u16,
+        admin: AdminAt,
     },
     /// `stop`: the end of the relay with this admin port, and whether to wait for it.
     Stop {
-        admin: u16,
+        admin: AdminAt,
         waits: bool,
     },
     /// `restart`: the end of the relay with this admin port, if the files are a configuration.
     Restart {
         paths: Paths,
-        admin: u16,
+        admin: AdminAt,
         explain: Explain,
     },
-    /// `reload`: a new configuration for the relay with this admin port, of these files, or of those that it began with.
+    /// `reload`: another look of the relay with this admin port at the files that it began with.
     Reload {
-        paths: Option<Paths>,
-        admin: u16,
+        admin: AdminAt,
         explain: Explain,
     },
 }
@@ -142,6 +142,7 @@ fn check_invocation(alloc: Global, options: &ArgMatches<'_>) -> Result<Invocatio
 fn run_invocation(alloc: Global, options: &ArgMatches<'_>) -> Result<Invocation, Error> {
     Ok(Invocation::Run {
         options: run_options(alloc, options)?,
+        admin_key: path_option(alloc, options, "admin-key")?,
         record: path_option(alloc, options, "record")?,
         spool: path_option(alloc, options, "spool")?,
         paths: path_options(alloc, options, &RUN)?,
@@ -151,20 +152,20 @@ fn run_invocation(alloc: Global, options: &ArgMatches<'_>) -> Result<Invocation,
 
 fn report_invocation(alloc: Global, options: &ArgMatches<'_>) -> Result<Invocation, Error> {
     Ok(Invocation::Report {
-        admin: client_port(alloc, options, &REPORT)?,
+        admin: admin_at(alloc, options, &REPORT)?,
     })
 }
 
 fn stop_invocation(alloc: Global, options: &ArgMatches<'_>) -> Result<Invocation, Error> {
     Ok(Invocation::Stop {
-        admin: client_port(alloc, options, &STOP)?,
+        admin: admin_at(alloc, options, &STOP)?,
         waits: options.get_flag("wait"),
     })
 }
 
 fn restart_invocation(alloc: Global, options: &ArgMatches<'_>) -> Result<Invocation, Error> {
     Ok(Invocation::Restart {
-        admin: client_port(alloc, options, &RESTART)?,
+        admin: admin_at(alloc, options, &RESTART)?,
         paths: path_options(alloc, options, &RESTART)?,
         explain: explain_option(options, false),
     })
@@ -172,8 +173,7 @@ fn restart_invocation(alloc: Global, options: &ArgMatches<'_>) -> Result<Invocat
 
 fn reload_invocation(alloc: Global, options: &ArgMatches<'_>) -> Result<Invocation, Error> {
     Ok(Invocation::Reload {
-        admin: client_port(alloc, options, &RELOAD)?,
-        paths: reload_paths(alloc, options)?,
+        admin: admin_at(alloc, options, &RELOAD)?,
         explain: explain_option(options, false),
     })
 }

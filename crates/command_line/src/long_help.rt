@@ -66,7 +66,8 @@ pub const RUN_HELP: &str = "Example:
     relayd run --config relay.conf --rules relay-rules.conf --longest-name 1024 --admin 2015 --log
 
 It stays in the foreground, and prints `ready` when it receives datapoints. `relayd stop --admin 2015`
-stops it. A signal ends it at once, and what is queued is lost.
+stops it. A signal ends it at once, and what is queued is lost; as the first process of a container it
+ignores SIGTERM and SIGHUP. There run relayd-supervised, which turns them into a stop and a reload.
 
 Exit status: 0 stopped; 1 the files have a fault; 3 it cannot listen on a port, or failed later; 4
 out of memory.";
@@ -87,13 +88,12 @@ its ports are free.
 Exit status: 0 the relay stops or, with --wait, has ended; 3 no relay listens on the port.";
 
 /// Of `relayd reload`.
-pub const RELOAD_HELP: &str = "Examples:
-    relayd reload --admin 2015
-    relayd reload --config /etc/relayd/new.conf --rules /etc/relayd/new-rules.conf --admin 2015
+pub const RELOAD_HELP: &str = "Example:
+    relayd reload --admin 2015 --explain
 
-The relay reads its files again, or these, and goes on by them: it keeps its ports, its connections
-and what is queued. It prints `reloaded` when that is done. With a fault, or if a port changed, the
-relay goes on as it was. The paths of files begin with `/`.
+The relay reads the files again that it began with, and goes on by them: it keeps its ports, its
+connections and what is queued. It prints `reloaded` and what changed. With a fault, or if a port
+changed, the relay goes on as it was. For other files or options, restart the relay.
 
 Exit status: 0 the relay goes on by the files; 1 they have a fault, or need a restart; 3 a file
 cannot be read, or no relay listens on the port; 4 out of memory.";

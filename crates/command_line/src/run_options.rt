@@ -1,6 +1,7 @@
 //! What the options of `run` ask for.
 
 use crate::commands::RUN;
+use crate::log_form::{LogForm, log_form_in};
 use crate::senders::{Senders, senders_in};
 use clap::error::ErrorKind;
 use clap::{ArgMatches, Error};
@@ -28,8 +29,8 @@ pub struct RunOptions {
     pub idle: u64,
     /// Where the status server listens, if any.
     pub status: Option<SocketAddr>,
-    /// Whether there is a log.
-    pub has_log: bool,
+    /// The form of the log, if there is one.
+    pub log: Option<LogForm>,
 }
 
 /// What the options ask for.
@@ -41,7 +42,7 @@ pub fn run_options(alloc: Global, options: &ArgMatches<'_>) -> Result<RunOptions
         drain: seconds_option(alloc, options, "drain", LONGEST_DRAIN_SECONDS)?,
         idle: seconds_option(alloc, options, "idle", LONGEST_IDLE_SECONDS)?,
         status: status_option(alloc, options)?,
-        has_log: options.get_flag("log"),
+        log: log_option(alloc, options)?,
     })
 }
 
@@ -78,6 +79,25 @@ fn interface_option(alloc: Global, options: &ArgMatches<'_>) -> Result<IpAddr, E
             Err(RUN.error(alloc, ErrorKind::InvalidValue, message.as_str())?)
         }
     }
+}
+
+/// The form of `--log-format`, which asks for a log too; the lines as they are with `--log` alone.
+fn log_option(alloc: Global, options: &ArgMatches<'_>) -> Result<Option<LogForm>, Error> {
+    let Some(text) = options.get_str("log-format") else {
+        return Ok(options.get_flag("log").then_some(LogForm::Text));
+    };
+    match log_form_in(text) {
+        Some(form) => Ok(Some(form)),
+        None => refuse_form(alloc, text),
+    }
+}
+
+/// The error of a form of the log that has another name.
+fn refuse_form(alloc: Global, text: &str) -> Result<Option<LogForm>, Error> {
+    let message = format!(in alloc;
+        "invalid value '{text}' for '--log-format <FORM>': not text, timed or json"
+    )?;
+    Err(RUN.error(alloc, ErrorKind::InvalidValue, message.as_str())?)
 }
 
 /// The number of `--senders`.

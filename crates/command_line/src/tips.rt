@@ -1,5 +1,6 @@
 //! Tips for words that other programs take: what `relayd` has in place of them.
 
+use crate::client_words::RELOAD;
 use crate::commands::{PASS, RUN};
 use crate::words::CommandWords;
 use clap::Error;
@@ -12,6 +13,9 @@ const STAYS: &str =
 const STARTS: &str = "'relayd run' starts the relay, and stays in the foreground";
 
 const READS: &str = "'relayd pass' reads standard input: relayd pass < ";
+
+const READS_AGAIN: &str =
+    "the relay reads the files again that it began with; replace these, or restart it with others";
 
 /// A tip, which may end with the name of a file, and the command of which its error shows the usage.
 #[derive(Drop)]
@@ -76,6 +80,7 @@ fn tip_of<'a>(command: &str, reason: &'a str) -> Option<Tip<'a>> {
         ("run" | "", "unexpected argument '--daemon' found" | "unexpected argument '-d' found") =>
             Some(Tip::of_run(STAYS)),
         ("start", "unrecognized subcommand 'start'") => Some(Tip::of_run(STARTS)),
+        ("reload", _) => tip_of_reload(reason),
         ("pass", _) => Some(Tip {
             command: &PASS,
             text: READS,
@@ -83,6 +88,18 @@ fn tip_of<'a>(command: &str, reason: &'a str) -> Option<Tip<'a>> {
         }),
         _ => None,
     }
+}
+
+/// The tip for an option that `relayd reload` does not take.
+fn tip_of_reload(reason: &str) -> Option<Tip<'static>> {
+    if !reason.starts_with("unexpected argument '--") {
+        return None;
+    }
+    Some(Tip {
+        command: &RELOAD,
+        text: READS_AGAIN,
+        file: "",
+    })
 }
 
 /// The first line of the text of an error, without `error: `.

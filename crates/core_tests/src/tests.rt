@@ -13,6 +13,7 @@ mod histories;
 mod holds;
 mod hostile_pickles;
 mod line_pieces;
+mod log_forms;
 mod loopback;
 mod memory;
 mod names;

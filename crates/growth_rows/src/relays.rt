@@ -2,6 +2,7 @@
 
 use crate::marks::{print_answer, print_text};
 use finished_run::NoRecorder;
+use relay_base::NoMemory;
 use relay_files::{RelayFault, RunConfiguration, Source, Sources, Status};
 use relay_run::{RefusedReload, RelayRuntime, ReloadSource, RunOptions};
 use std::alloc::Global;
@@ -64,8 +65,20 @@ impl<'c> Source for ConfigurationText<'c> {
 struct NoFiles;
 
 impl ReloadSource for NoFiles {
-    fn read(&self, alloc: Global, _request: &[u8]) -> Result<RunConfiguration, RefusedReload> {
+    fn key(&self) -> Option<&[u8]> {
+        None
+    }
+
+    fn begin(&self, alloc: Global) -> Result<(), RefusedReload> {
         Err(RefusedReload::no_memory(alloc))
+    }
+
+    fn look(&self, _alloc: Global) -> Option<Result<RunConfiguration, RefusedReload>> {
+        None
+    }
+
+    fn names(&self, alloc: Global) -> Result<String, NoMemory> {
+        Ok(String::new(alloc))
     }
 }
 

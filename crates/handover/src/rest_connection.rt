@@ -1,13 +1,14 @@
 //! What an ended run left for a destination, and the connection that it goes out on.
 
-ghost use Rattle.std.specs.Prelude.{◌≡◌, ◌↔◌, [], ◌++◌, true, false, None, IfSome, IsSome, IsTrue};
+ghost use Rattle.std.specs.Prelude.{◌≡◌, ◌↔◌, [], ◌++◌, true, false, Some, None, IfSome, IsSome, MatchOption, IsTrue};
 ghost use Rattle.std.specs.Io.KnownBytes.{Appends};
 ghost use Rattle.dest_writer.specs.Counting.{stream_of};
 ghost use Rattle.dest_writer.specs.Writer.{bytes_left};
+ghost use Rattle.dest_writer.specs.declared.counting.Counting.{Counting};
 ghost use Rattle.dest_writer.specs.declared.driven.Driven.TheVariants.{Idle};
 ghost use Rattle.line_text.specs.Print.{printed_lines};
 ghost use Rattle.handover.specs.Rest.{TookFirst, rest_text, left_text, without_connection};
-ghost use Rattle.handover.specs.RestTurn.{IfOver};
+ghost use Rattle.handover.specs.RestTurn.{IfOver, IfNotOver};
 
 use crate::rest::Rest;
 use crate::rest_turn::RestTurn;
@@ -63,7 +64,7 @@ impl<W: Drop> RestConnection<W> {
     pub fn into_parts(self) -> (Rest, Option<W>)
         ensures writer { result.0.writer ≡ self.writer }
         ensures queued { result.0.queued ≡ self.queued }
-        ensures sink { IfSome self.sink (λ had. IfSome result.1 (λ sink. stream_of had ≡ sink)) }
+        ensures sink { MatchOption self.sink (result.1 ≡ None) (λ had. result.1 ≡ Some (stream_of had)) }
     {
         let RestConnection {
             rest,
@@ -108,8 +109,8 @@ impl<W: Drop> RestConnection<W> {
     /// The connection that the writer had goes on: it gets the rest from the very byte on that it took last.
     pub fn go_on(&mut self, sink: W)
         ensures text { rest_text self.new ≡ rest_text self.old }
-        ensures sink { IfSome self.new.sink (λ has. stream_of has ≡ sink) }
-        ensures open { IsSome self.new.sink × (self.new.blocked ≡ false) }
+        ensures sink { (has : Counting W) × (self.new.sink ≡ Some has) × (stream_of has ≡ sink) }
+        ensures open { self.new.blocked ≡ false }
     {
         // The writer that had it has it still.
         self.rest.connect();
@@ -121,8 +122,8 @@ impl<W: Drop> RestConnection<W> {
     pub fn begin(&mut self, sink: W)
         ensures text { rest_text self.new
             ≡ bytes_left (without_connection self.old.writer) ++ printed_lines self.old.queued }
-        ensures sink { IfSome self.new.sink (λ has. stream_of has ≡ sink) }
-        ensures open { IsSome self.new.sink × (self.new.blocked ≡ false) }
+        ensures sink { (has : Counting W) × (self.new.sink ≡ Some has) × (stream_of has ≡ sink) }
+        ensures open { self.new.blocked ≡ false }
     {
         self.lose();
         self.rest.connect();
@@ -142,12 +143,15 @@ impl<W: Drop> RestConnection<W> {
 }
 
 impl<W: Write + Drop> RestConnection<W> {
-    /// Sends some of the rest, and gives the connection out once it took all of it. It takes no memory.
+    /// Sends some of the rest, and gives the connection out once it took all of it. One that is lost is still there, for
+    /// whoever calls [`RestConnection::lose`] then. It takes no memory.
     pub fn send(&mut self, gathered: &mut GatherBuf) -> RestTurn<W>
-        // While it is kept it gets what comes next of the rest, and nothing else.
+        // While it is there it gets what comes next of the rest and nothing else, and the rest has what it did not get.
         ensures kept { IfSome self.old.sink (λ had. IfSome self.new.sink (λ has.
             TookFirst (rest_text self.old) (rest_text self.new)
             (W.contents (stream_of had)) (W.contents (stream_of has)))) }
+        // It is there unless it is given out.
+        ensures stays { IsSome self.old.sink → IfNotOver result (IsSome self.new.sink) }
         // It is given out with the whole rest,
         ensures whole { IfSome self.old.sink (λ had. IfOver result (λ sink.
             Appends (W.contents (stream_of had)) (W.contents sink) (rest_text self.old))) }
@@ -166,7 +170,7 @@ impl<W: Write + Drop> RestConnection<W> {
         match send_batches(&mut self.rest, gathered, &mut sink) {
             Driven::Idle => RestTurn::Over(sink.into_stream()),
             Driven::Failed => {
-                self.rest.lose();
+                self.sink = Some(sink);
                 RestTurn::Lost
             }
             Driven::Blocked => {

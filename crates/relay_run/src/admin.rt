@@ -3,15 +3,16 @@
 ghost use Rattle.std.specs.Prelude.{◌≡◌, true, length};
 ghost use Rattle.std.specs.Option.{is_none};
 
-use crate::end_waits::{DrainWait, EndWait, FilesWait};
+use crate::end_waits::{DrainWait, EndWait, FilesWait, PartingWait};
 use crate::ended_run::EndedRecord;
 use crate::first_work::FirstWork;
 use crate::listeners::FirstPorts;
-use crate::prepared_run::{NextSource, PreparedRun, prepared_by};
+use crate::prepared_run::{PreparedRun, prepared_by};
 use crate::relay::Relay;
-use crate::reload_source::{RefusedReload, ReloadSource};
+use crate::reload_source::{READING_TIMEOUT_MS, RefusedReload, ReloadSource};
+use crate::spool_folder::SpoolFolder;
 use crate::start::Process;
-use admin_port::{AdminListener, Answers, AskedReload};
+use admin_port::{AdminListener, Answers, Refusals};
 use admin_report::report;
 use conf_text::Dest;
 use dest_queue::Counts;
@@ -20,6 +21,7 @@ use locked_queues::{Queues, Set};
 use mio_loops::{SystemTimes, TimeSource};
 use receivers::{ClosingWait, ReceiverControl};
 use relay_base::{DestId, NoMemory, add, put};
+use relay_files::RunConfiguration;
 use relay_watchers::{LogEnd, StatusServer};
 use run_state::DestSources;
 use spool::SpoolDisk;
@@ -31,23 +33,31 @@ use std::sync::{Arc, Wait};
 /// How many milliseconds a turn waits at most while there is no connection.
 const PAUSE_MS: u64 = 1_000;
 
+/// How many milliseconds a turn waits at most while the files of a reload are read.
+const READING_PAUSE_MS: u64 = 1;
+
+/// How many milliseconds pass at least between two lines of the log on connections that were refused what they asked for.
+const REFUSALS_PAUSE_MS: u64 = 60_000;
+
 /// How many milliseconds a turn waits at most at the end of a run: so late is seen what it waits for.
 const END_PAUSE_MS: u64 = 1;
 
-/// What a report is made of: the queues of a relay with their destinations.
+/// What answers are made of: the queues of a relay with their destinations, and the names of its files.
 #[derive(Drop)]
-struct ReportSource<'x, B: Set> {
+struct ReportSource<'x, B: Set, F> {
     queues: &'x Queues<B>,
     noted: DestSources<'x>,
+    files: &'x F,
     ghost all: { length noted.dests.now ≡ B.dests },
 }
 
-impl<'x, B: Set> ReportSource<'x, B> {
-    /// The queues of a relay.
-    fn new(relay: &'x Relay<B>) -> ReportSource<'x, B> {
+impl<'x, B: Set, F> ReportSource<'x, B, F> {
+    /// The queues of a relay, and its files.
+    fn new(relay: &'x Relay<B>, files: &'x F) -> ReportSource<'x, B, F> {
         ReportSource {
             queues: &relay.queues,
             noted: relay.noted(),
+            files,
         }
     }
 
@@ -63,11 +73,19 @@ impl<'x, B: Set> ReportSource<'x, B> {
     }
 }
 
-impl<'x, B: Set, R: Wait> Answers<R> for ReportSource<'x, B> {
+impl<'x, B: Set, F: ReloadSource, R: Wait> Answers<R> for ReportSource<'x, B, F> {
     fn report(&self, rt: &R, alloc: Global) -> Result<Vec<u8>, NoMemory> {
         let mut text = Vec::new(alloc);
         report(alloc, self.counts(rt, alloc)?.as_slice(), &mut text)?;
         Ok(text)
+    }
+
+    fn files(&self, alloc: Global) -> Result<Vec<u8>, NoMemory> {
+        Ok(self.files.names(alloc)?.into_bytes())
+    }
+
+    fn key(&self) -> Option<&[u8]> {
+        self.files.key()
     }
 }
 
@@ -141,58 +159,177 @@ fn end_before<B: Set, R: Wait, K: Recorder>(
     }
 }
 
+/// A reload whose files are read: the connection that has asked for it, and the milliseconds at which the reading began.
+#[derive(Clone, Copy)]
+struct Reading {
+    connection: u64,
+    since: u64,
+}
+
 /// Answers commands until one is `stop`, or until another run is ready to follow, which is returned.
 fn answer_until_ended<B: Set, R: Wait + Clock + Net + SpoolDisk, F: ReloadSource>(
     rt: &R,
     alloc: Global,
     relay: &Relay<B>,
     ports: &mut FirstPorts,
-    source: NextSource<'_, F>,
+    files: &F,
+    folder: Option<SpoolFolder<'_>>,
 ) -> Option<PreparedRun<B>> {
-    let watched = ReportSource::new(relay);
+    let watched = ReportSource::new(relay, files);
     let times = SystemTimes::since(rt, relay.began);
+    let mut reading = None;
+    let mut said = SaidRefusals::new(&ports.admin);
     for _ in rt.forever() {
         let millis = times.millis();
-        if ports.admin.take_turn(rt, alloc, &watched, millis, PAUSE_MS) {
+        said.say(rt, alloc, relay, ports.admin.refusals(), millis);
+        if ports
+            .admin
+            .take_turn(rt, alloc, &watched, millis, pause_of(reading))
+        {
+            if let Some(begun) = reading {
+                ports.admin.refuse_reload(begun.connection, millis);
+            }
             return None;
         }
-        let next = next_run(rt, alloc, relay, ports, &source, millis);
-        if next.is_some() {
-            return next;
+        let Some(begun) = reading else {
+            reading = begin_reading(alloc, &mut ports.admin, files, millis);
+            continue;
+        };
+        let Some(read) = read_for(alloc, files, begun, millis) else {
+            continue;
+        };
+        reading = None;
+        let next = next_run(rt, alloc, relay, ports, folder, begun.connection, read);
+        match next {
+            Ok(prepared) => {
+                keep_answer(alloc, &mut ports.admin, &prepared);
+                return Some(prepared);
+            }
+            Err(refused) => refuse(alloc, &mut ports.admin, begun.connection, refused, millis),
         }
     }
     unreachable!()
 }
 
-/// Makes ready the run that a connection has asked for, if one has, or answers why not.
-fn next_run<B: Set, R: SpoolDisk, F: ReloadSource>(
+/// What the log has of connections that were refused what they asked for, and the milliseconds of its last line.
+#[derive(Clone, Copy)]
+struct SaidRefusals {
+    refusals: Refusals,
+    since: Option<u64>,
+}
+
+impl SaidRefusals {
+    /// The log has all of this port.
+    fn new(admin: &AdminListener) -> SaidRefusals {
+        SaidRefusals {
+            refusals: admin.refusals(),
+            since: None,
+        }
+    }
+
+    /// Has the log say what is new, once a minute at most. Without memory for the line it is said later.
+    fn say<B: Set, R: Wait>(
+        &mut self,
+        rt: &R,
+        alloc: Global,
+        relay: &Relay<B>,
+        refusals: Refusals,
+        millis: u64,
+    ) {
+        let is_early = match self.since {
+            Some(since) => millis.saturating_sub(since) < REFUSALS_PAUSE_MS,
+            None => false,
+        };
+        if is_early || refusals == self.refusals {
+            return;
+        }
+        let unknown = refusals.unknown.saturating_sub(self.refusals.unknown);
+        let keyless = refusals.keyless.saturating_sub(self.refusals.keyless);
+        let line = format!(in alloc;
+            "admin: {unknown} unknown commands, {keyless} without the key\n"
+        );
+        if let Ok(line) = line {
+            relay.late_news.put(rt, line);
+            self.refusals = refusals;
+            self.since = Some(millis);
+        }
+    }
+}
+
+/// How many milliseconds a turn waits at most.
+fn pause_of(reading: Option<Reading>) -> u64 {
+    match reading {
+        Some(_) => READING_PAUSE_MS,
+        None => PAUSE_MS,
+    }
+}
+
+/// Begins to read the files for a connection that has asked for a reload, if one has, or answers why not.
+fn begin_reading<F: ReloadSource>(
+    alloc: Global,
+    admin: &mut AdminListener,
+    files: &F,
+    millis: u64,
+) -> Option<Reading> {
+    let connection = admin.next_reload()?;
+    match files.begin(alloc) {
+        Ok(()) => Some(Reading {
+            connection,
+            since: millis,
+        }),
+        Err(refused) => {
+            refuse(alloc, admin, connection, refused, millis);
+            None
+        }
+    }
+}
+
+/// The configuration of the files that are read, or why there is none; `None` while there is time for them.
+fn read_for<F: ReloadSource>(
+    alloc: Global,
+    files: &F,
+    begun: Reading,
+    millis: u64,
+) -> Option<Result<RunConfiguration, RefusedReload>> {
+    match files.look(alloc) {
+        None if millis.saturating_sub(begun.since) >= READING_TIMEOUT_MS => {
+            Some(Err(RefusedReload::not_in_time(alloc)))
+        }
+        read => read,
+    }
+}
+
+/// Makes ready the run of the configuration that was read, or says why not.
+fn next_run<B: Set, R: SpoolDisk>(
     rt: &R,
     alloc: Global,
     relay: &Relay<B>,
-    ports: &mut FirstPorts,
-    source: &NextSource<'_, F>,
-    millis: u64,
-) -> Option<PreparedRun<B>> {
-    let AskedReload {
-        connection,
-        request,
-    } = ports.admin.next_reload(alloc)?;
-    let prepared = prepared_by(
-        rt,
-        alloc,
-        relay,
-        ports,
-        source,
-        request.as_slice(),
-        connection,
-    );
-    drop(request);
-    match prepared {
-        Ok(prepared) => Some(prepared),
-        Err(refused) => {
-            refuse(alloc, &mut ports.admin, connection, refused, millis);
-            None
-        }
+    ports: &FirstPorts,
+    folder: Option<SpoolFolder<'_>>,
+    connection: u64,
+    read: Result<RunConfiguration, RefusedReload>,
+) -> Result<PreparedRun<B>, RefusedReload> {
+    match read {
+        Ok(configuration) => prepared_by(
+            rt,
+            alloc,
+            relay,
+            ports,
+            folder,
+            configuration,
+            connection,
+        ),
+        Err(refused) => Err(refused),
+    }
+}
+
+/// Keeps the answer for the connection that has asked for a run: the line of the log without `relay`, its first word. If out of
+/// memory, the answer is short.
+fn keep_answer<B: Set>(alloc: Global, admin: &mut AdminListener, prepared: &PreparedRun<B>) {
+    let line = prepared.next.line.as_str();
+    let words = line.strip_prefix("relay ").unwrap_or(line);
+    if let Ok(answer) = String::from_str(alloc, words) {
+        admin.keep_answer(prepared.next.connection, answer.into_bytes());
     }
 }
 
@@ -233,11 +370,11 @@ impl<B: Set, R: Wait + Clock + Net + SpoolDisk, L: Drop, F: ReloadSource, K: Rec
         } = &mut *self.state;
         answer_reloaded(rt, relay, ports, before);
         end_before(rt, alloc, relay, before, self.recorder);
-        let source = NextSource {
-            files: self.files,
-            folder: self.process.folder,
-        };
-        put(next, answer_until_ended(rt, alloc, relay, ports, source));
+        let (files, folder) = (self.files, self.process.folder);
+        put(
+            next,
+            answer_until_ended(rt, alloc, relay, ports, files, folder),
+        );
         if next.is_some() {
             relay.open_streams();
         }
@@ -247,12 +384,28 @@ impl<B: Set, R: Wait + Clock + Net + SpoolDisk, L: Drop, F: ReloadSource, K: Rec
         self.state.next.is_some() || has_failed && !self.relay.is_first
     }
 
+    fn end_parting(&mut self, rt: &R, alloc: Global) {
+        let relay = self.relay;
+        relay.gone_gate.wake_all();
+        let wait = PartingWait::new(&relay.gone);
+        let files = self.files;
+        answer_until_over(rt, alloc, &mut self.state.ports.admin, relay, files, wait);
+    }
+
     fn close_receivers(&mut self, rt: &R, alloc: Global, controls: &[Arc<ReceiverControl>]) {
         self.state.ports.shut();
         spool_away(self.relay);
         let millis = SystemTimes::since(rt, self.relay.began).millis();
         let closing = ClosingWait::begin(controls, millis);
-        answer_until_over(rt, alloc, &mut self.state.ports.admin, self.relay, closing);
+        let files = self.files;
+        answer_until_over(
+            rt,
+            alloc,
+            &mut self.state.ports.admin,
+            self.relay,
+            files,
+            closing,
+        );
     }
 
     fn stop_datagrams(&self) {
@@ -264,20 +417,16 @@ impl<B: Set, R: Wait + Clock + Net + SpoolDisk, L: Drop, F: ReloadSource, K: Rec
         let Some(end) = relay.state.end() else {
             return;
         };
+        let files = self.files;
         let admin = &mut self.state.ports.admin;
         let draining = DrainWait::begin(relay, end, SystemTimes::since(rt, relay.began).millis());
-        answer_until_over(rt, alloc, admin, relay, draining);
+        answer_until_over(rt, alloc, admin, relay, files, draining);
         if end.is_spooled() {
             relay.state.signals().begin_spooling();
             relay.gate.wake_all();
             let millis = SystemTimes::since(rt, relay.began).millis();
-            answer_until_over(
-                rt,
-                alloc,
-                admin,
-                relay,
-                FilesWait::begin(relay, end, millis),
-            );
+            let writing = FilesWait::begin(relay, end, millis);
+            answer_until_over(rt, alloc, admin, relay, files, writing);
         }
     }
 
@@ -293,10 +442,9 @@ impl<B: Set, R: Wait + Clock + Net + SpoolDisk, L: Drop, F: ReloadSource, K: Rec
 }
 
 /// Refuses a reload, if a connection has asked for one: a relay that stops takes no new configuration.
-fn refuse_reload(alloc: Global, listener: &mut AdminListener, millis: u64) {
-    if let Some(asked) = listener.next_reload(alloc) {
-        listener.refuse_reload(asked.connection, millis);
-        drop(asked);
+fn refuse_reload(listener: &mut AdminListener, millis: u64) {
+    if let Some(connection) = listener.next_reload() {
+        listener.refuse_reload(connection, millis);
     }
 }
 
@@ -323,15 +471,16 @@ fn away_of<B: Set>(relay: &Relay<B>) -> u64 {
 }
 
 /// Answers commands until what a run waits for at its end is over.
-fn answer_until_over<R: Wait + Clock + Net, B: Set, E: EndWait<R> + Drop>(
+fn answer_until_over<R: Wait + Clock + Net, B: Set, F: ReloadSource, E: EndWait<R> + Drop>(
     rt: &R,
     alloc: Global,
     listener: &mut AdminListener,
     relay: &Relay<B>,
+    files: &F,
     wait: E,
 ) {
     let mut wait = wait;
-    let watched = ReportSource::new(relay);
+    let watched = ReportSource::new(relay, files);
     let times = SystemTimes::since(rt, relay.began);
     for _ in rt.forever() {
         let millis = times.millis();
@@ -339,7 +488,9 @@ fn answer_until_over<R: Wait + Clock + Net, B: Set, E: EndWait<R> + Drop>(
             return;
         }
         let _is_stopped = listener.take_turn(rt, alloc, &watched, millis, END_PAUSE_MS);
-        refuse_reload(alloc, listener, millis);
+        if !relay.state.signals().is_handing() {
+            refuse_reload(listener, millis);
+        }
     }
     unreachable!()
 }

@@ -53,10 +53,7 @@ impl DestSlots {
     pub(crate) fn leave_rest(&self, place: usize, rest: Rest, socket: Option<KeptSocket>) {
         if let Some(slot) = self.slots.get(place) {
             if let Some(mut left) = slot.try_lock() {
-                left.rest = Some(rest);
-                if socket.is_some() {
-                    left.socket = socket;
-                }
+                left.put_rest(rest, socket);
             }
         }
     }
@@ -70,10 +67,7 @@ impl DestSlots {
     ) {
         if let Some(slot) = self.slots.get(place) {
             if let Some(mut left) = slot.try_lock() {
-                left.files = files;
-                if socket.is_some() {
-                    left.socket = socket;
-                }
+                left.put_files(files, socket);
             }
         }
     }

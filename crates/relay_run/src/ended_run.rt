@@ -1,6 +1,7 @@
 //! What a run leaves that another one follows.
 
-ghost use Rattle.std.specs.Prelude.{◌≡◌, ℕ, ◌≤◌, ◌+◌, [], ◌++◌, length, min, take, IfOk, IfSome};
+ghost use Rattle.std.specs.Prelude.{◌≡◌, ℕ, ◌≤◌, ◌+◌, ◌-◌, [], ◌++◌, length, min, take, IfOk, IfSome};
+ghost use Rattle.dest_queue.specs.EarlierCounts.{sum};
 ghost use Rattle.line_text.specs.Print.{printed_lines};
 ghost use Rattle.handover.specs.Rest.{left_text};
 ghost use Rattle.relay_run.specs.LeftDest.{text_left};
@@ -12,25 +13,26 @@ use crate::left_dest::LeftDest;
 use crate::relay::Relay;
 use crate::shape::Shape;
 use crate::thread_records::Records;
-use dest_queue::{Hand, QueuedPoints};
+use dest_queue::{EarlierCounts, Hand, QueuedPoints};
 use dest_writer::Writer;
 use finished_run::{FinishedRun, Recorder, RunPlace, RunShape};
 use handover::Rest;
 use locked_queues::{EndRoom, EndedSet, Set};
 use receivers::HandedStreams;
-use relay_base::{LARGEST_MESSAGE, NoMemory};
+use relay_base::{LARGEST_MESSAGE, MOST_DESTINATIONS, NoMemory};
 use relay_files::RunConfiguration;
 use run_state::RunNotes;
 use std::alloc::Global;
 use std::sync::Arc;
 
 /// What a run leaves that another one follows: what its record is made of, and, by its own places, what was noted, what is left
-/// for each destination, and the connections of each receiver.
+/// for each destination and how much of its queue found no room there, and the connections of each receiver.
 #[derive(Drop)]
 pub(crate) struct EndedRun {
     pub(crate) record: EndedRecord,
     pub(crate) notes: RunNotes,
     pub(crate) slots: DestSlots,
+    pub(crate) dropped: [u64; MOST_DESTINATIONS],
     pub(crate) gone: GoneDests,
     pub(crate) streams: Vec<Arc<HandedStreams>>,
 }
@@ -110,8 +112,12 @@ pub(crate) fn ended_of<B: Set>(
     let mut notes = state.into_notes();
     let mut slots = slots;
     let mut set = queues.end(room);
+    let mut dropped = [0; MOST_DESTINATIONS];
     for place in (0..shape.dests).rev() {
-        add_queue(alloc, &mut set, place, &shape, &mut notes, &mut slots);
+        let count = add_queue(alloc, &mut set, place, &shape, &mut notes, &mut slots);
+        if let Some(dropped) = dropped.get_mut(place) {
+            *dropped = count;
+        }
     }
     for receiver in notes.receivers.as_slice() {
         receiver.begin_run();
@@ -126,13 +132,14 @@ pub(crate) fn ended_of<B: Set>(
         },
         notes,
         slots,
+        dropped,
         gone,
         streams,
     }
 }
 
 /// Puts the datapoints of a destination's queue, the last one that was not taken yet, behind what is left for it, and notes
-/// what was counted.
+/// what was counted. Returns how many found no room, and were dropped.
 fn add_queue(
     alloc: Global,
     set: &mut EndedSet,
@@ -140,22 +147,36 @@ fn add_queue(
     shape: &Shape,
     notes: &mut RunNotes,
     slots: &mut DestSlots,
-)
+) -> u64
     requires limit { (1 ≤ shape.now.limit) × (shape.now.limit ≤ LARGEST_MESSAGE) }
 {
     let (Some(points), Some(counts)) = (set.take_points(), set.counts().get(place).copied()) else {
-        return;
+        return 0;
     };
     let Some(left) = slots.get_mut(place) else {
-        return;
+        return 0;
     };
-    let dropped = add_points(alloc, left, points, shape);
+    let dropped = add_points(alloc, left, points, shape) as u64;
     let (queued, in_hand) = left.counts();
     if let Some(earlier) = notes.earlier.get_mut(place) {
-        *earlier = earlier.after_run(counts).after_drops(dropped as u64);
+        *earlier = without(earlier.after_run(counts), dropped);
     }
     if let Some(rest) = notes.rests.get(place) {
         rest.note(queued, in_hand);
+    }
+    dropped
+}
+
+/// Counts without so many datapoints that were kept: they are dropped.
+fn without(counts: EarlierCounts, dropped: u64) -> EarlierCounts
+    ensures offered { result.offered ≡ counts.offered }
+    ensures kept { result.kept ≡ counts.kept - dropped }
+    ensures dropped { result.dropped ≡ sum counts.dropped dropped }
+{
+    EarlierCounts {
+        offered: counts.offered,
+        kept: counts.kept.saturating_sub(dropped),
+        dropped: counts.dropped.saturating_add(dropped),
     }
 }
 

@@ -1,7 +1,8 @@
 //! How a run ends once the first thread has served: the receivers, of datagrams last, then the senders, at last those that
 //! watch.
 //!
-//! If another run follows, nothing is closed and nothing is waited for: what the threads hold goes on there.
+//! If another run follows, nothing is closed: what the threads hold goes on there. What may take long, the files of destinations
+//! that are gone, is waited for while receivers and senders go on.
 
 ghost use Rattle.std.specs.Prelude.{◌≡◌, ◌⊎◌, Err, if◌then◌else◌};
 
@@ -59,6 +60,7 @@ pub(crate) fn end_threads<
     let is_handing = work.is_handing(served.is_err());
     let is_last = served.is_ok() && !is_handing;
     let server = end_server(rt, signals, servers, is_handing);
+    let parting = end_parting(rt, alloc, parting, is_handing, work);
     if is_last {
         work.close_receivers(rt, alloc, controls.as_slice());
     }
@@ -120,6 +122,23 @@ fn end_server<R: Threads + Wait, S: Send + Drop>(
     signals.begin_handing();
     signals.stop_status();
     ServerEnd::Ended(join_last(rt, servers))
+}
+
+/// If another run follows, ends the sender to destinations that are gone, which may be writing files, while the others go on.
+/// Returns its thread if none follows.
+fn end_parting<R: Threads + Wait + Clock, O, S, A: FirstWork<R, O, S>>(
+    rt: &R,
+    alloc: Global,
+    parting: Vec<JoinHandle<()>>,
+    is_handing: bool,
+    work: &mut A,
+) -> Vec<JoinHandle<()>> {
+    if !is_handing || parting.is_empty() {
+        return parting;
+    }
+    work.end_parting(rt, alloc);
+    let _ends = join_all(rt, alloc, parting);
+    Vec::new(alloc)
 }
 
 /// Joins the thread of a list that has one at most. Returns how it ended.

@@ -30,6 +30,9 @@ pub(crate) trait FirstWork<R: Wait + Clock, O, S> {
     /// which has failed. What a run inherited that could not begin is not lost either.
     fn is_handing(&self, has_failed: bool) -> bool;
 
+    /// Tells the sender to destinations that are gone to end, and answers commands until it has written its files.
+    fn end_parting(&mut self, rt: &R, alloc: Global);
+
     /// Closes the receivers before they are stopped, so that they read what was sent to them.
     fn close_receivers(&mut self, rt: &R, alloc: Global, controls: &[Arc<ReceiverControl>]);
 

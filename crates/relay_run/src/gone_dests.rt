@@ -3,20 +3,29 @@
 use crate::dest_slots::DestSlots;
 use crate::left_dest::LeftDest;
 use conf_text::Dest;
-use relay_base::NoMemory;
+use config_changes::place_of;
+use log_lines::DestNotes;
+use relay_base::{MOST_DESTINATIONS, NoMemory};
 use relay_watchers::GoneDest;
-use run_state::{GoneEnd, GoneNotes, RestNotes};
+use run_state::{GoneDrain, GoneEnd, GoneNotes, RestNotes};
+use spool::SpoolNotes;
 use std::alloc::Global;
+use std::sync::atomic::{AtomicBool, Ordering};
 
 /// The destinations that the runs before had and this one has not, as far as something is left for them: what that is, until
-/// which milliseconds it is sent, and what becomes of it. All lists are in the same order.
+/// which milliseconds it is sent, what is noted of their connections and files, and what becomes of it. All lists are in the
+/// same order.
 #[derive(Drop)]
 pub(crate) struct GoneDests {
     pub(crate) dests: Vec<Dest>,
     pub(crate) shown: Vec<GoneDest>,
     pub(crate) until: Vec<u64>,
+    pub(crate) links: Vec<DestNotes>,
+    pub(crate) files: Vec<SpoolNotes>,
     pub(crate) rests: Vec<RestNotes>,
     pub(crate) slots: DestSlots,
+    // Whether their sender has ended.
+    is_sender_over: AtomicBool,
 }
 
 /// A destination that is gone, as it is sent to and as the log shows it, and until which milliseconds it is sent to.
@@ -45,9 +54,22 @@ impl GoneDests {
             dests: Vec::with_capacity(alloc, count)?,
             shown: Vec::with_capacity(alloc, count)?,
             until: Vec::with_capacity(alloc, count)?,
+            links: Vec::with_capacity(alloc, count)?,
+            files: Vec::with_capacity(alloc, count)?,
             rests: Vec::with_capacity(alloc, count)?,
             slots: DestSlots::new(alloc, count)?,
+            is_sender_over: AtomicBool::new(false),
         })
+    }
+
+    /// Their sender has ended.
+    pub(crate) fn note_sender_over(&self) {
+        self.is_sender_over.store(true, Ordering::SeqCst);
+    }
+
+    /// Whether their sender has ended.
+    pub(crate) fn is_sender_over(&self) -> bool {
+        self.is_sender_over.load(Ordering::SeqCst)
     }
 
     /// Adds one, for which there is room, with what is left for it.
@@ -66,6 +88,8 @@ impl GoneDests {
             self.dests.push(dest),
             self.shown.push(shown),
             self.until.push(until),
+            self.links.push(DestNotes::new()),
+            self.files.push(SpoolNotes::new()),
             self.rests.push(rest),
         );
         self.slots.put(place, left);
@@ -96,6 +120,48 @@ impl GoneDests {
     /// Whether something is still sent to one of them at these milliseconds.
     pub(crate) fn are_sent_to(&self, millis: u64) -> bool {
         (0..self.dests.len()).any(|place| !self.is_over(place, millis))
+    }
+
+    /// Looks at each at these milliseconds. Returns whether a stop waits for one.
+    pub(crate) fn are_waited_for(&self, drain: &mut GoneDrain, millis: u64) -> bool {
+        let mut are = false;
+        for (place, until) in self.until.iter().enumerate() {
+            if place < MOST_DESTINATIONS && !self.is_over(place, millis) {
+                are = drain.look(place, self.left_at(place), millis, *until) || are;
+            }
+        }
+        are
+    }
+
+    /// How much the connection of the destination of a place has still to take; `None` if there is none, or if it takes an
+    /// earlier file first.
+    fn left_at(&self, place: usize) -> Option<u64> {
+        let is_up = self.links.get(place)?.status(0, true).is_up;
+        if is_up && !self.files.get(place)?.is_behind() {
+            Some(self.rests.get(place)?.left())
+        } else {
+            None
+        }
+    }
+
+    /// Takes what is left for the destination of a place; nothing if its end is known, since its file has that.
+    pub(crate) fn take_unless_over(&self, place: usize) -> LeftDest {
+        if self.has_ended(place) {
+            LeftDest::none()
+        } else {
+            self.slots.take(place)
+        }
+    }
+
+    /// How many of them are not in this list, and their end is not known.
+    pub(crate) fn sent_beside(&self, dests: &[Dest]) -> usize {
+        let mut count: usize = 0;
+        for (place, dest) in self.dests.iter().enumerate() {
+            if !self.has_ended(place) && place_of(dest, dests).is_none() {
+                count = count.saturating_add(1);
+            }
+        }
+        count
     }
 
     /// This is the end of the destination of a place.

@@ -1,5 +1,7 @@
 //! What is left for a destination between two runs.
 
+ghost use Rattle.std.specs.Prelude.{◌≡◌, Some, None, IfSome};
+
 use handover::Rest;
 use relay_base::DestId;
 use run_state::Signals;
@@ -22,11 +24,53 @@ impl LeftDest {
     }
 
     /// Only files.
-    pub(crate) fn with_files(files: Option<DestSpool>) -> LeftDest {
+    pub(crate) fn with_files(files: Option<DestSpool>) -> LeftDest
+        ensures { (result.files ≡ files) × (result.rest ≡ None) }
+    {
         LeftDest {
             rest: None,
             files,
             socket: None,
+        }
+    }
+
+    /// What is left for a destination of the next run: what was left for it if the run before knew it, otherwise its files.
+    pub(crate) fn known_or_new(known: Option<LeftDest>, files: Option<DestSpool>) -> LeftDest
+        ensures known { IfSome known (λ left. result ≡ left) }
+        ensures new { known ≡ None → (result.files ≡ files) × (result.rest ≡ None) }
+    {
+        match known {
+            Some(left) => {
+                drop(files);
+                left
+            }
+            None => LeftDest::with_files(files),
+        }
+    }
+
+    /// Puts a rest here, and the socket that it goes out on, if there is one.
+    pub(crate) fn put_rest(&mut self, rest: Rest, socket: Option<KeptSocket>)
+        ensures rest { self.new.rest ≡ Some rest }
+        ensures files { self.new.files ≡ self.old.files }
+        ensures socket { IfSome socket (λ _. self.new.socket ≡ socket) }
+        ensures no_socket { socket ≡ None → self.new.socket ≡ self.old.socket }
+    {
+        self.rest = Some(rest);
+        if socket.is_some() {
+            self.socket = socket;
+        }
+    }
+
+    /// Puts files here, and the socket that the earlier one goes out on, if there is one.
+    pub(crate) fn put_files(&mut self, files: Option<DestSpool>, socket: Option<KeptSocket>)
+        ensures files { self.new.files ≡ files }
+        ensures rest { self.new.rest ≡ self.old.rest }
+        ensures socket { IfSome socket (λ _. self.new.socket ≡ socket) }
+        ensures no_socket { socket ≡ None → self.new.socket ≡ self.old.socket }
+    {
+        self.files = files;
+        if socket.is_some() {
+            self.socket = socket;
         }
     }
 

@@ -16,6 +16,7 @@ use relay_base::{DestId, NoMemory, add};
 use relay_watchers::{ReceiverLog, StatusServer};
 use run_state::{RestNotes, RunNotes};
 use std::alloc::Global;
+use std::fmt::Write as _;
 use std::mem;
 
 /// The places of the destinations of a run that follows another one: empty lists with room for all. Once they are there,
@@ -43,7 +44,20 @@ pub(crate) fn places_after(
 ) -> Result<NewPlaces, NoMemory> {
     let NextPlan { line, files, .. } = &mut *prepared;
     line.push_str(files.news.as_str())?;
+    // Without memory for that the log lacks it.
+    let _said = say_drops(line, ended);
     places_of(alloc, ended, prepared, process, millis)
+}
+
+/// Adds a line on each destination of the run that has ended of whose queue something found no room.
+fn say_drops(line: &mut String, ended: &EndedRun) -> Result<(), NoMemory> {
+    let dests = ended.record.configuration.settings().destinations();
+    for (dest, count) in dests.iter().zip(ended.dropped.as_slice()) {
+        if *count > 0 {
+            write!(line, "destination {dest} dropped {count} at a reload\n")?;
+        }
+    }
+    Ok(())
 }
 
 /// What a run begins with that follows this one, and has these places.
@@ -226,7 +240,7 @@ impl NewPlaces {
         );
     }
 
-    /// Those destinations are gone of which something is left.
+    /// Those destinations are gone of which something is left that is still sent.
     fn add_gone(&mut self, ended: &EndedRun) {
         let count = ended.slots.len();
         for place in 0..self.parting.len() {
@@ -236,7 +250,7 @@ impl NewPlaces {
             let left = if place < count {
                 ended.slots.take(place)
             } else {
-                ended.gone.slots.take(place - count)
+                ended.gone.take_unless_over(place - count)
             };
             if !left.is_nothing() {
                 self.gone.add(one, left);
@@ -257,17 +271,12 @@ fn left_for(
     returned: Option<DestId>,
     files: Option<spool::DestSpool>,
 ) -> LeftDest {
-    match (kept, returned) {
-        (Some(place), _) => {
-            drop(files);
-            ended.slots.take(place.0)
-        }
-        (None, Some(place)) => {
-            drop(files);
-            ended.gone.slots.take(place.0)
-        }
-        (None, None) => LeftDest::with_files(files),
-    }
+    let known = match (kept, returned) {
+        (Some(place), _) => Some(ended.slots.take(place.0)),
+        (None, Some(place)) => Some(ended.gone.slots.take(place.0)),
+        (None, None) => None,
+    };
+    LeftDest::known_or_new(known, files)
 }
 
 /// Takes the events of a destination that was at this place; none has happened to another.

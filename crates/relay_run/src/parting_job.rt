@@ -5,7 +5,7 @@ use crate::gone_dests::GoneDests;
 use crate::rest_connector::RestConnector;
 use crate::sender_places::{SenderPlaces, Share};
 use crate::spool_connector::SpoolConnector;
-use crate::spool_left::spool_left;
+use crate::spool_left::{SpooledLeft, spool_left};
 use mio_loops::{SystemTimes, TimeSource};
 use relay_base::DestId;
 use run_state::{GoneEnd, Signals, ThreadWork};
@@ -69,6 +69,7 @@ impl<'x, R: Wait + Clock + Net + SpoolDisk + Copy + Drop> ThreadWork<R, ()> for 
         if !signals.is_handing() {
             spool_all(rt, alloc, gone, limit);
         }
+        gone.note_sender_over();
     }
 }
 
@@ -99,7 +100,7 @@ fn send_until_over<R: Wait + Clock, N: Connect>(
         let millis = times.millis();
         send_to_all(connector, gone, millis);
         connector.about_to_wait();
-        if !gone.are_sent_to(millis) || signals.senders_end() {
+        if !gone.are_sent_to(millis) || ends(signals) {
             return;
         }
         if connector.wait(MOST_WAIT_MS).is_err() {
@@ -107,6 +108,11 @@ fn send_until_over<R: Wait + Clock, N: Connect>(
         }
     }
     unreachable!()
+}
+
+/// Whether it ends: with the senders, or, if another run follows, before them.
+fn ends(signals: &Signals) -> bool {
+    signals.senders_end() || signals.is_handing()
 }
 
 /// Sends some to each destination that is gone, and notes which have all.
@@ -141,13 +147,15 @@ fn end_connections<R: Wait + Clock, N: Connect>(
     let end = times.millis().saturating_add(LONGEST_END_MS);
     for _ in rt.forever() {
         let millis = times.millis();
-        if connector.is_quiet() || millis >= end || connector.wait(MOST_WAIT_MS).is_err() {
+        let is_over = connector.is_quiet() || millis >= end || signals.is_handing();
+        if is_over || connector.wait(MOST_WAIT_MS).is_err() {
             return;
         }
     }
 }
 
-/// Writes to files what is left for destinations that are gone, if files keep that, and notes what became of it.
+/// Writes to files what is left for destinations that are gone, if files keep that, and notes what became of it. The files stay in
+/// the slots: a destination that returns is sent what they hold.
 fn spool_all<R: SpoolDisk + Copy + Drop>(
     rt: &R,
     alloc: Global,
@@ -155,8 +163,8 @@ fn spool_all<R: SpoolDisk + Copy + Drop>(
     limit: Option<u64>,
 ) {
     for place in 0..gone.dests.len() {
-        let left = gone.slots.take(place);
-        let end = spool_left(*rt, alloc, left, limit);
+        let SpooledLeft { end, files } = spool_left(*rt, alloc, gone.slots.take(place), limit);
+        gone.slots.leave_files(place, files, None);
         if !gone.has_ended(place) {
             gone.note_over(place, end);
         }

@@ -25,14 +25,18 @@ pub(crate) fn parting_job<'x, B: Set, R: RelayRuntime>(
         return Ok(None);
     };
     let gone = &relay.gone;
-    let (rt, alloc) = (*maker.rt, maker.alloc);
+    let (rt, alloc, threads) = (*maker.rt, maker.alloc, maker.hosts);
     let dests = gone.dests.as_slice();
-    let connector = match StoreConnector::new(rt, alloc, readiness, alarm, dests, 0, 1) {
-        Ok(connector) => connector,
+    let connector = match StoreConnector::new(rt, alloc, threads, readiness, alarm, dests, 0, 1) {
+        Ok(mut connector) => {
+            connector.set_notes(gone.links.as_slice());
+            connector
+        }
         Err(fault) => return Err(output_fault(fault)),
     };
     let (limit, count) = (relay.file_limit, dests.len());
-    match SenderPlaces::new(alloc, count, limit, &[], count, gone.rests.as_slice()) {
+    let (files, rests) = (gone.files.as_slice(), gone.rests.as_slice());
+    match SenderPlaces::new(alloc, count, limit, files, count, rests) {
         Ok(places) => Ok(Some(PartingJob {
             gone,
             orders: &relay.orders,

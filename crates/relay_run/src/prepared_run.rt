@@ -4,7 +4,7 @@ ghost use Rattle.std.specs.Prelude.{◌≤◌};
 
 use crate::listeners::{BoundPort, FirstPorts};
 use crate::relay::Relay;
-use crate::reload_source::{RefusedReload, ReloadSource};
+use crate::reload_source::RefusedReload;
 use crate::spool_folder::{SpoolFolder, open_new_files};
 use admin_client::Refusal;
 use conf_text::{Dest, Setting, Settings};
@@ -38,25 +38,17 @@ pub(crate) struct NextPlan {
     pub(crate) connection: u64,
 }
 
-/// Where the next run comes from: who reads the files that a request names, and the folder of the spool, if there is one.
-#[derive(Drop)]
-pub(crate) struct NextSource<'s, F> {
-    pub(crate) files: &'s F,
-    pub(crate) folder: Option<SpoolFolder<'s>>,
-}
-
-/// Reads the files that a request names, and makes ready what a run by them needs before the one that runs ends. Refuses a
-/// fault of the files, another setting of a port, and what the system refuses; then nothing has changed.
-pub(crate) fn prepared_by<B: Set, R: SpoolDisk, F: ReloadSource>(
+/// Makes ready what a run by a configuration needs before the one that runs ends. Refuses another setting of a port, and what
+/// the system refuses; then nothing has changed.
+pub(crate) fn prepared_by<B: Set, R: SpoolDisk>(
     rt: &R,
     alloc: Global,
     relay: &Relay<B>,
     ports: &FirstPorts,
-    source: &NextSource<'_, F>,
-    request: &[u8],
+    folder: Option<SpoolFolder<'_>>,
+    configuration: RunConfiguration,
     connection: u64,
 ) -> Result<PreparedRun<B>, RefusedReload> {
-    let configuration = source.files.read(alloc, request)?;
     if let Some(setting) = first_fixed_change(
         relay.configuration.settings(),
         configuration.settings(),
@@ -79,7 +71,7 @@ pub(crate) fn prepared_by<B: Set, R: SpoolDisk, F: ReloadSource>(
             return Err(refused_for(alloc, fault));
         }
     };
-    let Ok(made) = made_ready(rt, alloc, relay, &configuration, source.folder) else {
+    let Ok(made) = made_ready(rt, alloc, relay, &configuration, folder) else {
         drop(configuration);
         drop(receivers);
         return Err(RefusedReload::no_memory(alloc));
@@ -103,11 +95,11 @@ pub(crate) fn prepared_by<B: Set, R: SpoolDisk, F: ReloadSource>(
     Ok(PreparedRun { next, room })
 }
 
-/// How many destinations a run by a configuration does not have that this one has, or that are gone already.
+/// How many destinations a run by a configuration does not have that this one has, or still sends to though they are gone.
 fn gone_count<B: Set>(relay: &Relay<B>, configuration: &RunConfiguration) -> usize {
     let new = configuration.settings().destinations();
     let old = relay.configuration.settings().destinations();
-    lacked_by(new, old).saturating_add(lacked_by(new, relay.gone.dests.as_slice()))
+    lacked_by(new, old).saturating_add(relay.gone.sent_beside(new))
 }
 
 /// How many of some destinations a list does not have.

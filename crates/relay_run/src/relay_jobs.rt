@@ -16,6 +16,7 @@ use locked_queues::Set;
 use relay_base::NoMemory;
 use relay_files::RelayFault;
 use relay_watchers::{LogJob, ReceiverLog, StatusJob, Watched, watchers_of};
+use senders::HostThreads;
 use std::alloc::Global;
 use std::io::Write;
 
@@ -25,6 +26,7 @@ pub(crate) struct JobMaker<'x, B: Set, R> {
     pub(crate) rt: &'x R,
     pub(crate) alloc: Global,
     pub(crate) relay: &'x Relay<B>,
+    pub(crate) hosts: &'x HostThreads,
 }
 
 /// The jobs of the threads of a relay, of which each has its part. Refuses a fault of the start: all jobs are made
@@ -33,6 +35,7 @@ pub(crate) fn jobs_of<'x, B: Set, R: RelayRuntime, L: Write + Drop>(
     rt: &'x R,
     alloc: Global,
     relay: &'x Relay<B>,
+    hosts: &'x HostThreads,
     parts: Parts<B, L>,
 ) -> Result<
     Jobs<
@@ -54,7 +57,14 @@ pub(crate) fn jobs_of<'x, B: Set, R: RelayRuntime, L: Write + Drop>(
         watching,
     } = parts;
     let Seats { doors, outlets } = seats;
-    let maker = JobMaker { rt, alloc, relay };
+    let dests = relay.configuration.settings().destinations();
+    hosts.end_others(rt, dests, relay.gone.dests.as_slice());
+    let maker = JobMaker {
+        rt,
+        alloc,
+        relay,
+        hosts,
+    };
     let mut logs = Vec::new(alloc);
     let receiving = receivers_of(&maker, doors, receivers, &mut logs);
     let sending = senders_of(&maker, outlets, watches);

@@ -1,22 +1,35 @@
 //! Who reads the files of a configuration for a reload.
 
 use admin_client::Refusal;
+use relay_base::NoMemory;
 use relay_files::RunConfiguration;
 use std::alloc::Global;
 
-/// Who reads the files of a configuration for a reload.
+/// How many milliseconds the files of a reload may take.
+pub(crate) const READING_TIMEOUT_MS: u64 = 10_000;
+
+/// Who reads the files of a configuration for a reload, those that the relay began with, and has the key of the admin port. No
+/// call waits for a file.
 pub trait ReloadSource {
-    /// The configuration of the files that a request names (`admin_client::reload_files_in`), or, if it names none, of those
-    /// that the relay began with, read again. Refuses what `check` refuses.
-    fn read(&self, alloc: Global, request: &[u8]) -> Result<RunConfiguration, RefusedReload>;
+    /// The key that each command needs, if there is one.
+    fn key(&self) -> Option<&[u8]>;
+
+    /// Begins to read the files again. Refuses while an earlier reading has not ended, and if out of memory.
+    fn begin(&self, alloc: Global) -> Result<(), RefusedReload>;
+
+    /// The configuration of the files, once they have been read; `None` before. Refuses what `check` refuses.
+    fn look(&self, alloc: Global) -> Option<Result<RunConfiguration, RefusedReload>>;
+
+    /// The answer to `files` (`admin_client::files_answer`); an empty one if the files cannot be named. Refuses if out of memory.
+    fn names(&self, alloc: Global) -> Result<String, NoMemory>;
 }
 
-/// Why a relay goes on as it was: the status with which the command ends, and the reason, with a line for each note behind it.
+/// Why a relay goes on as it was: the status with which the command ends, and the reason.
 #[derive(Drop)]
 pub struct RefusedReload {
     /// The status.
     pub refusal: Refusal,
-    /// The reason, up to the first byte 10, and the notes.
+    /// The reason, and byte 10.
     pub text: String,
 }
 
@@ -26,6 +39,17 @@ impl RefusedReload {
         RefusedReload {
             refusal: Refusal::NoMemory,
             text: String::new(alloc),
+        }
+    }
+
+    /// The files have not been read in time.
+    pub(crate) fn not_in_time(alloc: Global) -> RefusedReload {
+        match String::from_str(alloc, "files: not read within 10 seconds\n") {
+            Ok(text) => RefusedReload {
+                refusal: Refusal::Device,
+                text,
+            },
+            Err(_) => RefusedReload::no_memory(alloc),
         }
     }
 

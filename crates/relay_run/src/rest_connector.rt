@@ -1,10 +1,11 @@
 //! Connections behind what ended runs left.
 
-ghost use Rattle.std.specs.Prelude.{◌≡◌, Some, None, IfErr, IfSome};
+ghost use Rattle.std.specs.Prelude.{◌≡◌, Some, None, IfErr, IfSome, IsSome};
 ghost use Rattle.std.specs.Io.KnownBytes.{Appends};
 ghost use Rattle.dest_writer.specs.Counting.{stream_of};
 ghost use Rattle.dest_writer.specs.declared.counting.Counting.{Counting};
-ghost use Rattle.handover.specs.Rest.{RestState, rest_text};
+ghost use Rattle.dest_writer.specs.Writer.{bytes_left};
+ghost use Rattle.handover.specs.Rest.{RestState, rest_text, left_text};
 
 use crate::dest_list::copy_list;
 use crate::left_dest::socket_of;
@@ -98,6 +99,15 @@ impl<'n, W: Drop> SenderRests<'n, W> {
         }
     }
 
+    /// All connections are to be tried.
+    fn note_all_ready(&mut self) {
+        for rest in self.dests.as_mut_slice().iter_mut() {
+            if let Some(rest) = rest {
+                rest.note_ready();
+            }
+        }
+    }
+
     /// The connection of a destination has closed.
     fn lose(&mut self, place: usize) {
         if let Some(Some(rest)) = self.dests.get_mut(place) {
@@ -153,21 +163,39 @@ fn send_rest<W: Write + Drop>(
         × (slot.old ≡ Some rest) × (rest.sink ≡ Some had)
         × Appends (W.contents (stream_of had)) (W.contents sink) (rest_text rest)) }
     ensures over { IfSome result (λ _. slot.new ≡ None) }
+    // Otherwise the rest stays, also after a loss.
+    ensures stays { result ≡ None → IsSome slot.old → IsSome slot.new }
 {
-    let Some(rest) = slot else {
+    let Some(left) = slot else {
         return None;
     };
-    let turn = rest.send(gathered);
+    let turn = left.send(gathered);
     if let Some(notes) = notes {
-        notes.note(rest.rest().queued(), rest.rest().in_hand());
+        notes.note(left.rest().queued(), left.rest().in_hand());
     }
     match turn {
         RestTurn::Over(sink) => {
             *slot = None;
             Some(sink)
         }
-        RestTurn::Lost | RestTurn::Kept => None,
+        RestTurn::Lost => {
+            left.lose();
+            None
+        }
+        RestTurn::Kept => None,
     }
+}
+
+/// The rest that a writer with the batch in hand leaves, with nothing behind it.
+fn rest_in_hand(alloc: Global, batch: LeftBatch) -> Rest
+    ensures { left_text result ≡ bytes_left batch.writer.writer }
+{
+    let LeftBatch {
+        limit,
+        writer,
+        lent,
+    } = batch;
+    Rest::new(limit, writer, lent, QueuedPoints::none(alloc))
 }
 
 /// Connects through another connector. While a rest is left for a destination, it keeps the connection for itself and sends the
@@ -204,13 +232,17 @@ impl<'n, N: Connect> RestConnector<'n, N> {
         }
     }
 
-    /// Waits; not at all if a rest goes on at once. Connections that have closed take no more of their rests.
+    /// Waits; not at all if a rest goes on at once. Connections that have closed take no more of their rests. While the relay
+    /// ends, each is tried after a wait: the system reports late what a slow store takes.
     fn wait_beside_rests(&mut self, millis: u64) -> Result<&[DestId], ReadinessFault>
         ensures device { IfErr result (λ fault. fault ≡ ReadinessFault.Device) }
     {
         let pause = if self.rests.goes_on() { 0 } else { millis };
         let count = copy_list(self.connector.wait(pause)?, &mut self.ready);
         self.rests.note_ready(&self.ready[..count]);
+        if self.signals.is_relay_ending() {
+            self.rests.note_all_ready();
+        }
         for place in 0..self.rests.dests.len() {
             if self.connector.has_closed(DestId(place)) {
                 self.rests.lose(place);
@@ -277,12 +309,7 @@ impl<'n, N: Connect + Drop> Connect for RestConnector<'n, N> {
             Some(sink) => self.connector.take_back(dest, sink),
             None => None,
         };
-        let LeftBatch {
-            limit,
-            writer,
-            lent,
-        } = batch;
-        let rest = Rest::new(limit, writer, lent, QueuedPoints::none(self.alloc));
+        let rest = rest_in_hand(self.alloc, batch);
         self.share.slots.leave_rest(dest.0, rest, socket);
     }
 

@@ -40,6 +40,7 @@ use mio_loops::{SystemTimes, TimeSource};
 use relay_base::NoMemory;
 use relay_files::{RelayFault, RunConfiguration, Source, Sources, Status};
 use relay_watchers::{LogEnd, StatusServer};
+use senders::HostThreads;
 use std::alloc::Global;
 use std::io::Write;
 use std::marker::Brand;
@@ -115,9 +116,11 @@ pub fn run<
         fault)) }
 {
     let configuration = RunConfiguration::read(alloc, sources)?;
+    let hosts = HostThreads::new(alloc);
     let process = Process {
         options,
         folder: spool,
+        hosts: &hosts,
         is_recorded: recorder.is_some(),
         began: Instant::now(rt).ok(),
     };
@@ -292,27 +295,68 @@ fn stop<B: Set, W: Write, L: Drop, K: Recorder>(
     ensures err { IfErr result (λ fault. (settled : Result Settled SettleFault)
         × ClosesWith (W.contents output.old) (W.contents output.new) settled left.records.fault fault) }
 {
+    match end_last(alloc, relay, left, ports, output, recorder) {
+        Ok(status) => Ok(RunEnd::Stopped(status)),
+        Err(fault) => Err(fault),
+    }
+}
+
+/// Settles the last run, writes what it leaves, and ends what watched it.
+fn end_last<B: Set, W: Write, L: Drop, K: Recorder>(
+    alloc: Global,
+    relay: Relay<B>,
+    left: RunLeft<L>,
+    ports: FirstPorts,
+    output: &mut W,
+    recorder: &mut Option<K>,
+) -> Result<Status, RelayFault>
+    ensures ok { IfOk result (λ status. (settled : Result Settled SettleFault)
+        × Appends (W.contents output.old) (W.contents output.new) (closing_line settled)
+        × (status ≡ closing_status settled)) }
+    ensures err { IfErr result (λ fault. (settled : Result Settled SettleFault)
+        × ClosesWith (W.contents output.old) (W.contents output.new) settled left.records.fault fault) }
+{
     let mut relay = relay;
+    let ended = settle_last(alloc, &mut relay, &left.records, output, recorder);
+    end_process(relay, left, ports);
+    ended
+}
+
+/// Settles the last run, and writes its closing line, and what its recorder makes of it.
+fn settle_last<B: Set, W: Write, K: Recorder>(
+    alloc: Global,
+    relay: &mut Relay<B>,
+    records: &Records,
+    output: &mut W,
+    recorder: &mut Option<K>,
+) -> Result<Status, RelayFault>
+    ensures ok { IfOk result (λ status. (settled : Result Settled SettleFault)
+        × Appends (W.contents output.old) (W.contents output.new) (closing_line settled)
+        × (status ≡ closing_status settled)) }
+    ensures err { IfErr result (λ fault. (settled : Result Settled SettleFault)
+        × ClosesWith (W.contents output.old) (W.contents output.new) settled records.now.fault
+        fault) }
+{
+    let (doors, outlets) = (records.doors.as_slice(), records.outlets.as_slice());
+    let settled = relay.queues.settle(alloc, doors, outlets);
+    let run = relay.finished(&settled, &records.logs);
+    let ended = write_end(alloc, &run, records.fault, output, recorder);
+    mem::forget(settled);
+    ended
+}
+
+/// Ends what watched the last run. Whoever waits at the admin port for the end of the relay knows of it then. The rest is not
+/// given back: datapoint by datapoint that would take long, and the system takes it at once.
+fn end_process<B: Set, L: Drop>(relay: Relay<B>, left: RunLeft<L>, ports: FirstPorts) {
     let RunLeft {
         records,
         log,
         server,
     } = left;
-    let (doors, outlets) = (records.doors.as_slice(), records.outlets.as_slice());
-    let settled = relay.queues.settle(alloc, doors, outlets);
-    let run = relay.finished(&settled, &records.logs);
-    let ended = write_end(alloc, &run, records.fault, output, recorder);
     drop((log, server));
-    // Whoever waits at the admin port for the end of the relay knows of it now.
     drop(ports);
-    // Datapoint by datapoint it would take long to give all this back. The process ends, and the system takes it at once.
-    mem::forget(settled);
     mem::forget(records);
     mem::forget(relay);
-    match ended {
-        Ok(status) => Ok(RunEnd::Stopped(status)),
-        Err(fault) => Err(fault),
-    }
 }
 
 /// Takes a relay apart whose run has ended, and makes of it what the next one begins with. If that cannot begin, what is left

@@ -46,7 +46,7 @@ pub(crate) fn run_until_ended<
     ensures err { IfErr result (FailsBeforeClosing (opening (is_none state.old.before.waiting))
         (W.contents output.old) (W.contents output.new)) }
 {
-    let jobs = match jobs_of(rt, alloc, relay, parts) {
+    let jobs = match jobs_of(rt, alloc, relay, process.hosts, parts) {
         Ok(jobs) => jobs,
         Err(fault) => return Err(fault),
     };

@@ -153,8 +153,17 @@ fn connector_of<'x, B: Set, R: RelayRuntime>(
     };
     let noted = maker.relay.noted();
     let senders = maker.relay.shape.senders;
-    let (rt, alloc) = (*maker.rt, maker.alloc);
-    match StoreConnector::new(rt, alloc, readiness, alarm, noted.dests, sender, senders) {
+    let (rt, alloc, threads) = (*maker.rt, maker.alloc, maker.hosts);
+    match StoreConnector::new(
+        rt,
+        alloc,
+        threads,
+        readiness,
+        alarm,
+        noted.dests,
+        sender,
+        senders,
+    ) {
         Ok(mut connector) => {
             connector.set_notes(noted.notes);
             Ok(connector)

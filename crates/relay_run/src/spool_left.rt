@@ -8,14 +8,20 @@ use run_state::GoneEnd;
 use spool::{DestSpool, FileSink, SpoolDisk, SpoolNotes};
 use std::alloc::Global;
 
-/// Writes to a file what is left for a destination, if files keep that; otherwise it is lost. Returns how many datapoints the
-/// file keeps, and how many are lost.
+/// What became of what was left for a destination, and its files, if there are: the earlier one holds what they keep.
+#[derive(Drop)]
+pub(crate) struct SpooledLeft {
+    pub(crate) end: GoneEnd,
+    pub(crate) files: Option<DestSpool>,
+}
+
+/// Writes to a file what is left for a destination, if files keep that; otherwise it is lost.
 pub(crate) fn spool_left<D: SpoolDisk + Drop>(
     disk: D,
     alloc: Global,
     left: LeftDest,
     limit: Option<u64>,
-) -> GoneEnd {
+) -> SpooledLeft {
     let (queued, in_hand) = left.counts();
     let LeftDest {
         rest,
@@ -27,9 +33,12 @@ pub(crate) fn spool_left<D: SpoolDisk + Drop>(
         Some(files) => spool_rest(disk, alloc, rest, files, limit),
         None => {
             drop((disk, rest));
-            GoneEnd {
-                spooled: 0,
-                unsent: queued.saturating_add(in_hand) as u64,
+            SpooledLeft {
+                end: GoneEnd {
+                    spooled: 0,
+                    unsent: queued.saturating_add(in_hand) as u64,
+                },
+                files: None,
             }
         }
     }
@@ -42,43 +51,50 @@ fn spool_rest<D: SpoolDisk + Drop>(
     rest: Option<Rest>,
     files: DestSpool,
     limit: Option<u64>,
-) -> GoneEnd {
+) -> SpooledLeft {
     let notes = SpoolNotes::new();
     let sink = FileSink::new(disk, files, limit, Some(&notes));
-    let unsent = match rest {
+    let (unsent, sink) = match rest {
         Some(rest) => write_rest(alloc, rest, sink),
-        None => {
-            drop(sink);
-            0
-        }
+        None => (0, Some(sink)),
+    };
+    let files = match sink {
+        Some(sink) => Some(sink.end()),
+        None => None,
     };
     let (taken, kept) = notes.datapoints();
-    GoneEnd {
-        spooled: kept,
-        unsent: taken.saturating_sub(kept).saturating_add(unsent),
+    SpooledLeft {
+        end: GoneEnd {
+            spooled: kept,
+            unsent: taken.saturating_sub(kept).saturating_add(unsent),
+        },
+        files,
     }
 }
 
-/// Writes a rest to its last connection. Returns how many datapoints that did not take.
-fn write_rest<D: SpoolDisk + Drop>(alloc: Global, rest: Rest, sink: FileSink<'_, D>) -> u64 {
+/// Writes a rest to its last connection. Returns how many datapoints that did not take, and the connection.
+fn write_rest<'n, D: SpoolDisk + Drop>(
+    alloc: Global,
+    rest: Rest,
+    sink: FileSink<'n, D>,
+) -> (u64, Option<FileSink<'n, D>>) {
     let Ok(mut gathered) = GatherBuf::new(alloc) else {
-        drop(sink);
-        return rest.queued().saturating_add(rest.in_hand()) as u64;
+        return (
+            rest.queued().saturating_add(rest.in_hand()) as u64,
+            Some(sink),
+        );
     };
     let mut connection = RestConnection::new(rest);
     connection.begin(sink);
     for _ in 0..u64::MAX {
         match connection.send(&mut gathered) {
-            RestTurn::Over(sink) => {
-                drop(sink);
-                break;
-            }
+            RestTurn::Over(sink) => return (0, Some(sink)),
             RestTurn::Lost => break,
             RestTurn::Kept => {}
         }
     }
-    let left = connection.rest();
-    left.queued().saturating_add(left.in_hand()) as u64
+    let (left, sink) = connection.into_parts();
+    (left.queued().saturating_add(left.in_hand()) as u64, sink)
 }
 
 /// Writes to files what is left in slots, as far as files keep it.
@@ -89,6 +105,6 @@ pub(crate) fn spool_slots<D: SpoolDisk + Copy + Drop>(
     limit: Option<u64>,
 ) {
     for place in 0..slots.len() {
-        let _end = spool_left(*disk, alloc, slots.take(place), limit);
+        drop(spool_left(*disk, alloc, slots.take(place), limit));
     }
 }

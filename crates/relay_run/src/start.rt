@@ -13,6 +13,7 @@ use conf_text::Settings;
 use locked_queues::BlankTotals;
 use relay_base::NoMemory;
 use relay_files::{RelayFault, RunConfiguration};
+use senders::HostThreads;
 use std::alloc::Global;
 use std::time::Instant;
 
@@ -33,12 +34,13 @@ pub(crate) struct Start {
     ghost senders: { (1 ≤ shape.senders) × (shape.senders ≤ 8) },
 }
 
-/// What all runs of a process have in common: how they run, the folder for what is not sent, if there is one, whether they are
-/// recorded, and since when their milliseconds count.
+/// What all runs of a process have in common: how they run, the folder for what is not sent, if there is one, the threads that
+/// look hosts up, whether they are recorded, and since when their milliseconds count.
 #[derive(Clone, Copy)]
 pub(crate) struct Process<'a> {
     pub(crate) options: RunOptions,
     pub(crate) folder: Option<SpoolFolder<'a>>,
+    pub(crate) hosts: &'a HostThreads,
     pub(crate) is_recorded: bool,
     pub(crate) began: Option<Instant>,
 }

@@ -2,6 +2,9 @@
 
 use std::sync::{Mutex, Wait};
 
+/// How many bytes of lines are kept, before another line comes in place of them.
+const MOST_KEPT: usize = 4_096;
+
 /// Lines that the first thread has for the log while that runs.
 #[derive(Drop)]
 pub struct LateNews {
@@ -16,9 +19,15 @@ impl LateNews {
         }
     }
 
-    /// These are the lines, in place of others that the log has not taken.
+    /// These are the lines, behind others that the log has not taken, or in place of them if they are many, as where there is no
+    /// log, or if out of memory.
     pub fn put<R: Wait>(&self, rt: &R, text: String) {
         let mut place = self.text.lock(rt);
+        if let Some(others) = place.as_mut() {
+            if others.len() < MOST_KEPT && others.push_str(text.as_str()).is_ok() {
+                return;
+            }
+        }
         *place = Some(text);
     }
 

@@ -2,7 +2,7 @@
 //!
 //! Both implement `ThreadWork` of `run_state`: they read what receivers and senders note while these run, and end after them, as
 //! `Signals` of `run_state` says. [`watchers_of`] makes their work. [`LogJob`] writes the news of each destination and each
-//! receiver, in the words of `log_lines`. [`StatusJob`] serves the pages of `status_page`, and keeps samples of the last
+//! receiver, in the words of `log_lines`, through a [`LogBuffer`], so that it waits for no reader. [`StatusJob`] serves the pages of `status_page`, and keeps samples of the last
 //! minutes for them.
 #![tactic(auto)]
 
@@ -10,6 +10,7 @@ mod dest_rest;
 mod dest_track;
 mod gone_dest;
 mod late_news;
+mod log_buffer;
 mod log_job;
 mod log_writes;
 mod process;
@@ -21,6 +22,7 @@ mod watchers;
 
 pub use gone_dest::GoneDest;
 pub use late_news::LateNews;
+pub use log_buffer::LogBuffer;
 pub use log_job::{LogEnd, LogJob};
 pub use process::SystemFacts;
 pub use receiver_log::ReceiverLog;

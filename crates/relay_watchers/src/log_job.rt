@@ -280,6 +280,8 @@ impl<'x, B: Set, L: Write + Drop, R: Wait + Clock> ThreadWork<R, LogEnd<L>> for 
             job.write_last_news(rt, alloc, signals);
         } else {
             job.write_end(rt, alloc, signals);
+            // Only the end of the relay waits for the output.
+            let _ = job.output.flush();
         }
         let LogJob {
             receivers,

@@ -1,104 +1,122 @@
 //! The commands for a running relay: `report`, `stop` and `reload`.
 
+use crate::admin_key::{key_at, slice_of};
+use crate::explain::{notes_of_reload, write};
+use crate::file_limit::limited_output;
+use crate::started_paths::paths_in;
 use admin_client::{
-    AdminCommand, AdminFault, Refusal, ReloadAnswer, ReloadFiles, ask, ask_reload,
-    reload_answer_in, reload_request, stop_and_wait,
+    AdminCommand, AdminFault, Refusal, RelayAt, ReloadAnswer, answer_to, ask, reload_answer_in,
+    stop_and_wait,
 };
-use command_line::{Explain, Paths};
+use command_line::{AdminAt, Explain};
+use note_text::Notes;
 use relay_base::NoMemory;
 use relay_files::Status;
 use std::alloc::Global;
 use std::io::Write;
 
 /// Prints what the relay with this admin port has counted.
-pub fn report(rt: &HostRuntime, alloc: Global, port: u16) -> Status {
-    status_of(
-        rt,
-        ask(rt, alloc, port, AdminCommand::Report, &mut rt.stdout()),
-    )
+pub fn report(rt: &HostRuntime, alloc: Global, admin: &AdminAt) -> Status {
+    let key = match key_at(rt, alloc, &admin.key) {
+        Ok(key) => key,
+        Err(status) => return status,
+    };
+    let relay = relay_at(admin, &key);
+    let mut output = limited_output(rt);
+    let asked = ask(rt, alloc, relay, AdminCommand::Report, &mut output);
+    status_of(rt, admin.port, asked)
 }
 
 /// Stops the relay with this admin port, and waits for its end if asked to.
-pub fn stop(rt: &HostRuntime, alloc: Global, port: u16, waits: bool) -> Status {
-    let mut output = rt.stdout();
+pub fn stop(rt: &HostRuntime, alloc: Global, admin: &AdminAt, waits: bool) -> Status {
+    let key = match key_at(rt, alloc, &admin.key) {
+        Ok(key) => key,
+        Err(status) => return status,
+    };
+    let relay = relay_at(admin, &key);
+    let mut output = limited_output(rt);
     let ended = if waits {
-        stop_and_wait(rt, alloc, port, &mut output)
+        stop_and_wait(rt, alloc, relay, &mut output)
     } else {
-        ask(rt, alloc, port, AdminCommand::Stop, &mut output)
+        ask(rt, alloc, relay, AdminCommand::Stop, &mut output)
     };
-    status_of(rt, ended)
+    status_of(rt, admin.port, ended)
 }
 
-/// Has the relay with this admin port take a new configuration, and prints what it answers: `reloaded`, or on standard error
-/// why it goes on as it was, with the notes on that if they are asked for.
-pub fn reload(
-    rt: &HostRuntime,
-    alloc: Global,
-    port: u16,
-    paths: &Option<Paths>,
-    explain: Explain,
-) -> Result<Status, NoMemory> {
-    let request = request_of(alloc, paths)?;
-    let asked = ask_reload(rt, alloc, port, request.as_str());
-    drop(request);
-    let answer = match asked {
-        Ok(answer) => answer,
-        Err(fault) => return Ok(status_of(rt, Err(fault))),
+/// Has the relay with this admin port read its files again, and prints what it answers: `reloaded` and what changed, or on
+/// standard error why it goes on as it was. If notes are asked for, it reads the same files before.
+pub fn reload(rt: &HostRuntime, alloc: Global, admin: &AdminAt, explain: Explain) -> Status {
+    let key = match key_at(rt, alloc, &admin.key) {
+        Ok(key) => key,
+        Err(status) => return status,
     };
-    let status = match reload_answer_in(answer.as_slice()) {
-        Some(ReloadAnswer::Refused { refusal, text }) => {
-            say_refusal(rt, text, explain);
-            status_of_refusal(refusal)
+    let relay = relay_at(admin, &key);
+    let notes = match explain {
+        Explain::Nothing => Ok(None),
+        _ => notes_of_relay(rt, alloc, relay),
+    };
+    let status = match answer_to(rt, alloc, relay, AdminCommand::Reload) {
+        Ok(answer) => {
+            let status = say_answer(rt, answer.as_slice());
+            drop(answer);
+            status
         }
-        _ => match rt.stdout().write_all(answer.as_slice()) {
-            Ok(()) => Status::Done,
-            Err(_) => status_of(rt, Err(AdminFault::Output)),
-        },
+        Err(fault) => status_of(rt, admin.port, Err(fault)),
     };
-    drop(answer);
-    Ok(status)
+    if let Ok(Some(notes)) = notes {
+        let _ = write(rt, Ok(notes));
+    }
+    status
 }
 
-/// The text that asks for a reload by the files at these paths, or by those that the relay began with.
-fn request_of(alloc: Global, paths: &Option<Paths>) -> Result<String, NoMemory> {
-    let Some(paths) = paths else {
-        return reload_request(alloc, None);
-    };
-    let digits = match paths.longest_name {
-        Some(longest) => Some(format!(in alloc; "{}", longest.characters())?),
-        None => None,
-    };
-    let files = ReloadFiles {
-        config: paths.config.as_str(),
-        rules: text_of(&paths.rules),
-        rewrite: text_of(&paths.rewrite),
-        longest_name: text_of(&digits),
-    };
-    let request = reload_request(alloc, Some(files));
-    drop(digits);
-    request
-}
-
-/// The text, if there is one.
-fn text_of(text: &Option<String>) -> Option<&str> {
-    match text {
-        Some(text) => Some(text.as_str()),
-        None => None,
+/// The relay with this admin port and key.
+fn relay_at<'k>(admin: &AdminAt, key: &'k Option<Vec<u8>>) -> RelayAt<'k> {
+    RelayAt {
+        port: admin.port,
+        key: slice_of(key),
     }
 }
 
-/// Writes on standard error why a relay goes on as it was: the first line of this text. The other lines are notes.
-fn say_refusal(rt: &HostRuntime, text: &[u8], explain: Explain) {
-    let has_notes = !matches!(explain, Explain::Nothing);
-    let mut output = rt.stderr();
-    let mut words = b"relayd: ".as_slice();
-    for line in text.split_inclusive(|byte| *byte == b'\n') {
-        let _ = output.write_all(words);
-        let _ = output.write_all(line);
-        if !has_notes {
-            return;
+/// Says what a relay answers to `reload`. Returns the status of that.
+fn say_answer(rt: &HostRuntime, answer: &[u8]) -> Status {
+    if let Some(ReloadAnswer::Refused { refusal, text }) = reload_answer_in(answer) {
+        say_refusal(rt, text);
+        return status_of_refusal(refusal);
+    }
+    match limited_output(rt).write_all(answer) {
+        Ok(()) => Status::Done,
+        Err(_) => {
+            let _ = eprintln!(rt; "relayd: {}", AdminFault::Output);
+            Status::DeviceFault
         }
-        words = b"relayd: note: ".as_slice();
+    }
+}
+
+/// Notes of the files that a relay reads at a reload; `None` if it does not name them.
+fn notes_of_relay(
+    rt: &HostRuntime,
+    alloc: Global,
+    relay: RelayAt<'_>,
+) -> Result<Option<Notes>, NoMemory> {
+    let Ok(answer) = answer_to(rt, alloc, relay, AdminCommand::Files) else {
+        return Ok(None);
+    };
+    let paths = paths_in(alloc, answer.as_slice());
+    drop(answer);
+    let Some(paths) = paths? else {
+        return Ok(None);
+    };
+    let notes = notes_of_reload(rt, alloc, &paths);
+    drop(paths);
+    Ok(Some(notes?))
+}
+
+/// Writes on standard error why a relay goes on as it was: the first line of this text.
+fn say_refusal(rt: &HostRuntime, text: &[u8]) {
+    let mut output = rt.stderr();
+    if let Some(line) = text.split_inclusive(|byte| *byte == b'\n').next() {
+        let _ = output.write_all(b"relayd: ");
+        let _ = output.write_all(line);
     }
 }
 
@@ -111,16 +129,21 @@ fn status_of_refusal(refusal: Refusal) -> Status {
     }
 }
 
-/// The status of a command, with its fault on standard error.
-fn status_of(rt: &HostRuntime, ended: Result<(), AdminFault>) -> Status {
+/// The status of a command for the relay with this admin port, with its fault on standard error.
+fn status_of(rt: &HostRuntime, port: u16, ended: Result<(), AdminFault>) -> Status {
     match ended {
         Ok(()) => Status::Done,
+        Err(AdminFault::NoMemory) => {
+            let _ = eprintln!(rt; "relayd: {}", AdminFault::NoMemory);
+            Status::NoMemory
+        }
+        Err(AdminFault::Output) => {
+            let _ = eprintln!(rt; "relayd: {}", AdminFault::Output);
+            Status::DeviceFault
+        }
         Err(fault) => {
-            let _ = eprintln!(rt; "relayd: {fault}");
-            match fault {
-                AdminFault::NoMemory => Status::NoMemory,
-                _ => Status::DeviceFault,
-            }
+            let _ = eprintln!(rt; "relayd: admin: 127.0.0.1:{port}: {fault}");
+            Status::DeviceFault
         }
     }
 }

@@ -1,6 +1,6 @@
 //! `--explain`: notes for people on standard error, beside the output of a command.
 
-use crate::files::STANDARD_INPUT;
+use crate::files::{STANDARD_INPUT, read_regular};
 use crate::memory_there::memory_there;
 use crate::reread_files::{RereadFile, RereadFiles};
 use crate::spool_folder::write_folder_notes;
@@ -9,9 +9,9 @@ use command_line::{Explain, Invocation, Paths};
 use config_notes::{NotesWanted, RunLimits, notes_of_files};
 use fault_notes::{Seconds, WatchedInput, notes_of_fault, notes_of_name, notes_of_names};
 use line_text::Moment;
-use note_text::Notes;
+use note_text::{EscapedText, Notes};
 use relay_base::NoMemory;
-use relay_files::{RelayFault, Status};
+use relay_files::{RelayFault, Role, Status};
 use std::alloc::Global;
 use std::io::{Stderr, Stdin, Write};
 use std::time::Instant;
@@ -26,7 +26,7 @@ pub fn end_with_notes(
     fault: Option<RelayFault>,
 ) -> Status {
     let (paths, explain) = match invocation {
-        // The notes of a reload come from the relay, which reads the files.
+        // A reload has written its notes, of the files that the relay has named.
         Invocation::Report { .. } | Invocation::Stop { .. } | Invocation::Reload { .. } => {
             return status;
         }
@@ -143,6 +143,42 @@ fn notes_of(
     wanted: NotesWanted,
 ) -> Result<Notes, NoMemory> {
     let is_check = matches!(invocation, Invocation::Check { .. });
+    notes_at(rt, alloc, paths, is_check, wanted)
+}
+
+/// The notes of the files of a running relay, as `check` writes them, if this user may read them.
+pub fn notes_of_reload(rt: &HostRuntime, alloc: Global, paths: &Paths) -> Result<Notes, NoMemory> {
+    for role in [Role::Config, Role::Rules, Role::Rewrite] {
+        let Some(path) = paths.path_of(role) else {
+            continue;
+        };
+        if let Err(error) = read_regular(rt, alloc, path) {
+            let reason = error.to_string(alloc);
+            drop(error);
+            return notes_of_unread(alloc, path, reason?.as_str());
+        }
+    }
+    notes_at(rt, alloc, paths, true, NotesWanted::All)
+}
+
+/// The note of a file of a running relay that this user may not read.
+fn notes_of_unread(alloc: Global, path: &str, reason: &str) -> Result<Notes, NoMemory> {
+    let mut notes = Notes::new(alloc);
+    notes.add(format_args!("{}: {reason}", EscapedText(path)));
+    notes.add(
+        "there are notes only on files that this user may read; the relay reads them with its own rights",
+    );
+    notes.finish()
+}
+
+/// The notes of the files at these paths.
+fn notes_at(
+    rt: &HostRuntime,
+    alloc: Global,
+    paths: &Paths,
+    is_check: bool,
+    wanted: NotesWanted,
+) -> Result<Notes, NoMemory> {
     let read = RereadFiles::new(rt, alloc, paths)?;
     let files = read.sources();
     let limits = RunLimits {

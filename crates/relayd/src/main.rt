@@ -9,24 +9,29 @@ ghost use Rattle.std.specs.Prelude.{◌≡◌};
 ghost use Rattle.relay_files.specs.Fault.{status_at_end};
 
 mod admin;
+mod admin_key;
 mod explain;
 mod file_limit;
 mod files;
 mod log_output;
 mod memory_there;
+mod read_files;
 mod record_file;
 mod reload_files;
 mod reread_files;
 mod spool_folder;
+mod started_paths;
 mod system_faults;
 mod words;
 
+use admin_key::{key_at, slice_of};
 use command_line::{Explain, Invocation, Paths, VERSION};
-use file_limit::ErrorRoom;
+use file_limit::{ErrorRoom, LimitedOutput, file_limit, limited_output};
 use files::{file_at, names_at, sources_at};
 use line_text::Moment;
 use log_output::log_output;
 use pass_lines::pass;
+use read_files::ReadsFiles;
 use record_file::recorder_of;
 use relay_commands::{HandedForm, check, replay, replay_lines, route, route_names};
 use relay_files::{RelayFault, Status};
@@ -37,7 +42,7 @@ use senders::Resolve;
 use spool::SpoolDisk;
 use spool_folder::own_folder;
 use std::alloc::Global;
-use std::io::{BufWriter, Stdout};
+use std::io::BufWriter;
 use std::net::{Net, TcpListener, TcpStream};
 use std::process::ExitCode;
 use std::random::RandomSource;
@@ -47,6 +52,9 @@ use std::thread::Threads;
 
 /// The room for output between two writes, in bytes.
 const OUTPUT_ROOM: usize = 65_536;
+
+/// How many bytes the line of a fault has at most.
+const LONGEST_FAULT: usize = 100;
 
 fn main(rt: HostRuntime) -> ExitCode {
     let status = match words::parse_args(&rt, rt.alloc()) {
@@ -74,7 +82,7 @@ fn run<R>(
 ) -> Result<Status, RelayFault>
 where
     R: Threads + Wait + Clock + Resolve + SystemFacts + SystemTables + SpoolDisk,
-    R: RandomSource + ErrorRoom,
+    R: RandomSource + ErrorRoom + ReadsFiles,
     R: Net<Listener = TcpListener, Stream = TcpStream>,
     R: Copy + Send + Sync + Drop + 'static,
 {
@@ -85,14 +93,18 @@ where
             ..
         } => run_pass(rt, alloc, *moment, *explain),
         Invocation::Check { paths, .. } => {
-            check(alloc, &mut sources_at(rt, alloc, paths)?, &mut rt.stdout())
+            check(
+                alloc,
+                &mut sources_at(rt, alloc, paths)?,
+                &mut limited_output(rt),
+            )
         }
         Invocation::Route { paths, name, .. } => {
             route(
                 alloc,
                 &mut sources_at(rt, alloc, paths)?,
                 name,
-                &mut rt.stdout(),
+                &mut limited_output(rt),
             )
         }
         Invocation::Replay {
@@ -105,7 +117,7 @@ where
             &mut sources_at(rt, alloc, paths)?,
             &mut file_at(rt, script),
             handed_form(*shows_text),
-            &mut rt.stdout(),
+            &mut limited_output(rt),
         ),
         Invocation::ReplayLines {
             paths,
@@ -117,12 +129,13 @@ where
             &mut sources_at(rt, alloc, paths)?,
             &mut file_at(rt, lines),
             handed_form(*shows_text),
-            &mut rt.stdout(),
+            &mut limited_output(rt),
         ),
         Invocation::RouteNames { paths, names, .. } => run_names(rt, alloc, paths, names),
         Invocation::Run {
             paths,
             options,
+            admin_key,
             record,
             spool,
             ..
@@ -135,6 +148,11 @@ where
                 Some(own) => Some(own.folder()),
                 None => None,
             };
+            let key = match key_at(rt, alloc, admin_key) {
+                Ok(key) => key,
+                Err(status) => return Ok(status),
+            };
+            let files = RelayFiles::new(rt, alloc, *threads, paths, slice_of(&key))?;
             let mut recorded = Status::Done;
             let recorder = match recorder_of(rt, alloc, record, &mut recorded) {
                 Ok(recorder) => recorder,
@@ -145,28 +163,28 @@ where
                 alloc,
                 &mut sources_at(rt, alloc, paths)?,
                 relay_options(*options),
-                &mut rt.stdout(),
-                log_output(rt, *threads, options.has_log),
+                &mut limited_output(rt),
+                log_output(rt, alloc, *threads, options.log)?,
                 recorder,
                 folder,
-                &RelayFiles::new(rt, paths),
+                &files,
             )?;
             Ok(match status {
                 Status::Done => recorded,
                 other => other,
             })
         }
-        Invocation::Report { admin } => Ok(admin::report(rt, alloc, *admin)),
-        Invocation::Stop { admin, waits } => Ok(admin::stop(rt, alloc, *admin, *waits)),
+        Invocation::Report { admin } => Ok(admin::report(rt, alloc, admin)),
+        Invocation::Stop { admin, waits } => Ok(admin::stop(rt, alloc, admin, *waits)),
         Invocation::Restart { paths, admin, .. } => {
-            check(alloc, &mut sources_at(rt, alloc, paths)?, &mut rt.stdout())?;
-            Ok(admin::stop(rt, alloc, *admin, true))
+            check(
+                alloc,
+                &mut sources_at(rt, alloc, paths)?,
+                &mut limited_output(rt),
+            )?;
+            Ok(admin::stop(rt, alloc, admin, true))
         }
-        Invocation::Reload {
-            paths,
-            admin,
-            explain,
-        } => Ok(admin::reload(rt, alloc, *admin, paths, *explain)?),
+        Invocation::Reload { admin, explain } => Ok(admin::reload(rt, alloc, admin, *explain)),
     }
 }
 
@@ -230,8 +248,13 @@ fn run_pass(
 }
 
 /// Standard output, written when the room is full or it is flushed.
-fn buffered_output(rt: &HostRuntime, alloc: Global) -> Result<BufWriter<Stdout>, RelayFault> {
-    BufWriter::with_capacity(alloc, OUTPUT_ROOM, rt.stdout()).map_err(|_| RelayFault::NoMemory)
+fn buffered_output(
+    rt: &HostRuntime,
+    alloc: Global,
+) -> Result<BufWriter<LimitedOutput<'_>>, RelayFault> {
+    BufWriter::with_capacity(alloc, OUTPUT_ROOM, limited_output(rt)).map_err(
+        |_| RelayFault::NoMemory,
+    )
 }
 
 /// Prints the fault of a command on standard error, if it has one. Returns the status.
@@ -241,7 +264,9 @@ fn print_fault(rt: &HostRuntime, run: Result<Status, RelayFault>) -> Status
     match run {
         Ok(status) => status,
         Err(fault) => {
-            let _ = eprintln!(rt; "relayd: {fault}");
+            if rt.error_has_room(file_limit(rt), LONGEST_FAULT) {
+                let _ = eprintln!(rt; "relayd: {fault}");
+            }
             fault.status()
         }
     }

@@ -1,156 +1,202 @@
 //! The files of a reload, as the running relay reads them.
 
-use crate::files::sources_at;
-use crate::reread_files::RereadFiles;
-use admin_client::{Refusal, reload_files_in};
+use crate::read_files::{FileSources, ReadFiles, ReadsFiles, read_files};
+use crate::started_paths::{absolute_paths, copy_of, names_of};
+use admin_client::Refusal;
 use command_line::Paths;
-use fault_notes::notes_of_fault;
-use note_text::Notes;
-use relay_base::{NoMemory, whole_number_up_to};
-use relay_files::{LongestName, MOST_CHARACTERS, RelayFault, Role, RunConfiguration, Status};
+use relay_base::NoMemory;
+use relay_files::{RelayFault, RunConfiguration, Status};
 use relay_run::{RefusedReload, ReloadSource};
 use std::alloc::Global;
 use std::fmt::Write as _;
+use std::sync::{Arc, Mutex, Wait};
+use std::thread::Threads;
+use std::{mem, thread};
 
-/// What each line of notes begins with on standard error.
-const NOTE: &str = "relayd: note: ";
+/// The state of a reading, which two threads share: the one that reads and the one that asks.
+type Slot = Arc<Mutex<Reading>>;
 
-/// The files that a relay began with, which a reload reads again unless it names others.
+/// The state of a reading.
 #[derive(Drop)]
-pub struct RelayFiles<'a> {
-    rt: &'a HostRuntime,
-    paths: &'a Paths,
+enum Reading {
+    /// None was begun, or the last one was taken.
+    Nothing,
+    /// It is under way.
+    UnderWay,
+    /// The files were read.
+    Done(ReadFiles),
 }
 
-impl<'a> RelayFiles<'a> {
-    /// The files at these paths.
-    pub fn new(rt: &'a HostRuntime, paths: &'a Paths) -> RelayFiles<'a> {
-        RelayFiles { rt, paths }
+/// The files that a relay began with, which a reload reads again: in a thread of its own, since a file on a dead network mount
+/// may never answer.
+#[derive(Drop)]
+pub struct RelayFiles<'k, R> {
+    rt: R,
+    paths: Paths,
+    key: Option<&'k [u8]>,
+    slot: Slot,
+}
+
+impl<'k, R> RelayFiles<'k, R> {
+    /// The files at these paths, and the key of the admin port, if it has one. Refuses if out of memory.
+    pub fn new(
+        host: &HostRuntime,
+        alloc: Global,
+        rt: R,
+        paths: &Paths,
+        key: Option<&'k [u8]>,
+    ) -> Result<RelayFiles<'k, R>, NoMemory>
+    where
+        R: Drop,
+    {
+        let slot = Arc::new(alloc, Mutex::new(Reading::Nothing))?;
+        Ok(RelayFiles {
+            rt,
+            paths: absolute_paths(host, alloc, paths)?,
+            key,
+            slot,
+        })
     }
 }
 
-impl ReloadSource for RelayFiles<'_> {
-    fn read(&self, alloc: Global, request: &[u8]) -> Result<RunConfiguration, RefusedReload> {
-        match paths_in(alloc, request) {
-            Ok(Some(paths)) => {
-                let read = read_at(self.rt, alloc, &paths);
-                drop(paths);
-                read
+impl<R: Threads + Wait + ReadsFiles + Copy + Send + Drop + 'static> ReloadSource
+    for RelayFiles<'_, R> {
+    fn key(&self) -> Option<&[u8]> {
+        self.key
+    }
+
+    fn begin(&self, alloc: Global) -> Result<(), RefusedReload> {
+        if is_under_way(&self.rt, &self.slot) {
+            return Err(earlier_hangs(alloc));
+        }
+        match start(self.rt, alloc, &self.paths, &self.slot) {
+            Ok(()) => Ok(()),
+            Err(NoMemory) => {
+                set_reading(&self.rt, &self.slot, Reading::Nothing);
+                Err(RefusedReload::no_memory(alloc))
             }
-            Ok(None) => read_at(self.rt, alloc, self.paths),
-            Err(NoMemory) => Err(RefusedReload::no_memory(alloc)),
         }
     }
-}
 
-/// The paths that a request names; `None` if it names no configuration file.
-fn paths_in(alloc: Global, request: &[u8]) -> Result<Option<Paths>, NoMemory> {
-    let Some(files) = reload_files_in(request) else {
-        return Ok(None);
-    };
-    Ok(Some(Paths {
-        config: String::from_str(alloc, files.config)?,
-        rules: owned(alloc, files.rules)?,
-        rewrite: owned(alloc, files.rewrite)?,
-        longest_name: files.longest_name.and_then(longest_name_in),
-    }))
-}
+    fn look(&self, alloc: Global) -> Option<Result<RunConfiguration, RefusedReload>> {
+        let read = take_read(&self.rt, &self.slot)?;
+        Some(configuration_of(alloc, read, &self.paths))
+    }
 
-/// A text of its own, if there is one.
-fn owned(alloc: Global, text: Option<&str>) -> Result<Option<String>, NoMemory> {
-    match text {
-        Some(text) => Ok(Some(String::from_str(alloc, text)?)),
-        None => Ok(None),
+    fn names(&self, alloc: Global) -> Result<String, NoMemory> {
+        names_of(alloc, &self.paths)
     }
 }
 
-/// The limit on names that digits are, if it is one.
-fn longest_name_in(digits: &str) -> Option<LongestName> {
-    let characters = whole_number_up_to(digits, MOST_CHARACTERS as u64)?;
-    LongestName::new(characters)
+/// Whether a reading is under way.
+fn is_under_way<R: Wait>(rt: &R, slot: &Slot) -> bool {
+    let slot = slot.lock(rt);
+    matches!(*slot, Reading::UnderWay)
 }
 
-/// The configuration of the files at these paths, or why there is none.
-fn read_at(
-    rt: &HostRuntime,
+/// Starts the thread of a reading. Refuses if there is no memory, or no thread.
+fn start<R: Threads + Wait + ReadsFiles + Copy + Send + Drop + 'static>(
+    rt: R,
     alloc: Global,
     paths: &Paths,
-) -> Result<RunConfiguration, RefusedReload> {
-    let Ok(mut sources) = sources_at(rt, alloc, paths) else {
-        return Err(RefusedReload::no_memory(alloc));
-    };
-    let read = RunConfiguration::read(alloc, &mut sources);
-    drop(sources);
-    match read {
-        Ok(configuration) => Ok(configuration),
-        Err(fault) => Err(refused_for(rt, alloc, paths, fault)),
+    slot: &Slot,
+) -> Result<(), NoMemory> {
+    let paths = copy_of(paths)?;
+    let theirs = Arc::try_clone(slot)?;
+    set_reading(&rt, slot, Reading::UnderWay);
+    match thread::spawn(&rt, move || put_files(&rt, alloc, paths, &theirs)) {
+        Ok(_) => Ok(()),
+        Err(_) => Err(NoMemory),
     }
 }
 
-/// The refusal for a fault of files, with the notes on it.
-fn refused_for(rt: &HostRuntime, alloc: Global, paths: &Paths, fault: RelayFault) -> RefusedReload {
+/// Reads the files at these paths, and puts them into a slot.
+fn put_files<R: Wait + ReadsFiles>(rt: &R, alloc: Global, paths: Paths, slot: &Slot) {
+    let read = read_files(rt, alloc, &paths);
+    drop(paths);
+    set_reading(rt, slot, Reading::Done(read));
+}
+
+/// Sets the state of a reading.
+fn set_reading<R: Wait>(rt: &R, slot: &Slot, reading: Reading) {
+    *slot.lock(rt) = reading;
+}
+
+/// Takes the files, once they were read.
+fn take_read<R: Wait>(rt: &R, slot: &Slot) -> Option<ReadFiles> {
+    let mut slot = slot.lock(rt);
+    if matches!(*slot, Reading::UnderWay) {
+        return None;
+    }
+    match mem::replace(&mut *slot, Reading::Nothing) {
+        Reading::Done(read) => Some(read),
+        _ => None,
+    }
+}
+
+/// The refusal while an earlier reading has not ended.
+fn earlier_hangs(alloc: Global) -> RefusedReload {
+    match String::from_str(alloc, "files: an earlier reload still reads them\n") {
+        Ok(text) => RefusedReload {
+            refusal: Refusal::Device,
+            text,
+        },
+        Err(_) => RefusedReload::no_memory(alloc),
+    }
+}
+
+/// The configuration of files that were read, or why there is none.
+fn configuration_of(
+    alloc: Global,
+    read: ReadFiles,
+    paths: &Paths,
+) -> Result<RunConfiguration, RefusedReload> {
+    let Ok(mut sources) = read.into_sources(alloc, paths.longest_name) else {
+        return Err(RefusedReload::no_memory(alloc));
+    };
+    let made = sources.configuration(alloc);
+    let refused = match made {
+        Ok(configuration) => {
+            drop(sources);
+            return Ok(configuration);
+        }
+        Err(fault) => refused_for(alloc, &sources, paths, fault),
+    };
+    drop(sources);
+    Err(refused)
+}
+
+/// The refusal for a fault of files.
+fn refused_for(
+    alloc: Global,
+    sources: &FileSources,
+    paths: &Paths,
+    fault: RelayFault,
+) -> RefusedReload {
     let refusal = match fault.status() {
         Status::NoMemory => return RefusedReload::no_memory(alloc),
         Status::DeviceFault => Refusal::Device,
         _ => Refusal::Configuration,
     };
-    match text_of(rt, alloc, paths, fault) {
+    match text_of(alloc, sources, paths, fault) {
         Ok(text) => RefusedReload { refusal, text },
         Err(NoMemory) => RefusedReload::no_memory(alloc),
     }
 }
 
-/// A fault, with the path of a file that cannot be read, and behind it the notes, a line each.
+/// A fault, with the path of a file that cannot be read, and the reason.
 fn text_of(
-    rt: &HostRuntime,
     alloc: Global,
+    sources: &FileSources,
     paths: &Paths,
     fault: RelayFault,
 ) -> Result<String, NoMemory> {
     let mut text = format!(in alloc; "{fault}")?;
-    if let Some(path) = unreadable_path(paths, fault) {
-        write!(text, ": {path}")?;
+    if let RelayFault::CannotRead { role } = fault {
+        if let (Some(path), Some(reason)) = (paths.path_of(role), sources.reason_of(role)) {
+            write!(text, ": {path}: {reason}")?;
+        }
     }
     text.push('\n')?;
-    if let Some(notes) = notes_of(rt, alloc, paths)? {
-        push_notes(&mut text, notes.text())?;
-        drop(notes);
-    }
     Ok(text)
-}
-
-/// The path of the file that cannot be read, if that is the fault.
-fn unreadable_path(paths: &Paths, fault: RelayFault) -> Option<&str> {
-    match fault {
-        RelayFault::CannotRead { role: Role::Config } => Some(paths.config.as_str()),
-        RelayFault::CannotRead { role: Role::Rules } => path_text(&paths.rules),
-        RelayFault::CannotRead {
-            role: Role::Rewrite,
-        } => path_text(&paths.rewrite),
-        _ => None,
-    }
-}
-
-/// The path, if there is one.
-fn path_text(path: &Option<String>) -> Option<&str> {
-    match path {
-        Some(path) => Some(path.as_str()),
-        None => None,
-    }
-}
-
-/// The notes on the first fault of the files at these paths, if there is one.
-fn notes_of(rt: &HostRuntime, alloc: Global, paths: &Paths) -> Result<Option<Notes>, NoMemory> {
-    let read = RereadFiles::new(rt, alloc, paths)?;
-    let files = read.sources();
-    notes_of_fault(alloc, &files)
-}
-
-/// Adds notes, without what each begins with on standard error.
-fn push_notes(text: &mut String, notes: &str) -> Result<(), NoMemory> {
-    for line in notes.lines() {
-        text.push_str(line.strip_prefix(NOTE).unwrap_or(line))?;
-        text.push('\n')?;
-    }
-    Ok(())
 }

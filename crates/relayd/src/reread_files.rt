@@ -1,10 +1,11 @@
 //! Files that are read again, for notes on them.
 
+use crate::files::read_any;
 use command_line::Paths;
 use note_text::{Source, SourceText, Sources};
 use relay_base::NoMemory;
 use std::alloc::Global;
-use std::{fs, str};
+use std::str;
 
 /// What reading a file again gave: its bytes, or why it cannot be read.
 #[derive(Drop)]
@@ -22,7 +23,7 @@ impl<'p> RereadFile<'p> {
         path: &'p String,
     ) -> Result<RereadFile<'p>, NoMemory> {
         let path = path.as_str();
-        match fs::read(rt, path) {
+        match read_any(rt, alloc, path) {
             Ok(bytes) => Ok(RereadFile {
                 path,
                 bytes,

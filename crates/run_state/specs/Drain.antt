@@ -73,20 +73,22 @@ is_slow left millis end progress =
     && nat_lt (min ((progress.before.left - left) * (end - millis)) greatest)
     (min (left * (millis - progress.before.millis)) greatest)
 
--- it waits for a destination that has something left, has taken something in the last second, and is not too slow
-abbrev pub waits_for : (left millis end : ℕ) → DrainProgress → Waits
-waits_for left millis end progress =
+-- it waits for a destination that has something left, and has taken something in the last second; where files keep what is not
+-- sent, not for one that is too slow
+abbrev pub waits_for : (left millis end : ℕ) → (files : Bool) → DrainProgress → Waits
+waits_for left millis end files progress =
     if left == 0 then Done
     else (if nat_le longest_pause (millis - progress.moved) then Stuck
-    else (if is_slow left millis end progress then Slow else Yes))
+    else (if files && is_slow left millis end progress then Slow else Yes))
 
 -- ---- a look at a destination
 
 -- it has no connection that takes what is queued, or it has this much left; and so the drain waits for it or not
-abbrev pub IsLook : (millis end : ℕ) → (before after : DrainProgress) → Waits → Type 0
-IsLook millis end before after waits =
+abbrev pub IsLook : (millis end : ℕ) → (files : Bool) → (before after : DrainProgress) → Waits → Type 0
+IsLook millis end files before after waits =
     ((after ≡ nothing_seen millis) × (waits ≡ Done))
-    ⊎ ((left : ℕ) × (after ≡ progress_after left millis before) × (waits ≡ waits_for left millis end after))
+    ⊎ ((left : ℕ) × (after ≡ progress_after left millis before) × (waits ≡ waits_for left millis end files after))
 
-abbrev pub IsNotWaitedFor : (millis end : ℕ) → (before after : DrainProgress) → Type 0
-IsNotWaitedFor millis end before after = (waits : Waits) × IsLook millis end before after waits × (waits ≢ Yes)
+abbrev pub IsNotWaitedFor : (millis end : ℕ) → (files : Bool) → (before after : DrainProgress) → Type 0
+IsNotWaitedFor millis end files before after =
+    (waits : Waits) × IsLook millis end files before after waits × (waits ≢ Yes)

@@ -17,17 +17,19 @@ const RATE_TIME_MS: u64 = 1_000;
 
 /// A drain: until when it lasts at most, and what each destination has taken since it began.
 ///
-/// It waits for a destination that is connected and has something left, unless this took nothing for a second, or would
-/// not have taken all in time at the rate of the last seconds, or is still sent the file of an earlier run.
+/// It waits for a destination that is connected and has something left, unless this took nothing for a second, or is still sent
+/// the file of an earlier run. Where files keep what is not sent, it does not wait either for one that would not have taken all
+/// in time at the rate of the last seconds.
 #[derive(Drop)]
 pub struct Drain {
     end: u64,
+    has_files: bool,
     progress: [DrainProgress; MOST_DESTINATIONS],
 }
 
 /// What was seen of a destination: how much it had left at a look, and when it had last taken something.
 #[derive(Clone, Copy)]
-struct DrainProgress {
+pub(crate) struct DrainProgress {
     left: u64,
     moved: u64,
     // A look some seconds ago, and one after it: by the first of them its rate is known.
@@ -37,31 +39,34 @@ struct DrainProgress {
 
 /// How much a destination had left, at which milliseconds.
 #[derive(Clone, Copy)]
-struct Look {
+pub(crate) struct Look {
     left: u64,
     millis: u64,
 }
 
 /// Whether a drain waits for a destination.
 #[derive(Clone, Copy)]
-enum Waits {
+pub(crate) enum Waits {
     /// It does: the destination still takes something.
     Yes,
     /// It does not: the destination has all, or no connection.
     Done,
     /// It does not: the destination takes nothing.
     Stuck,
-    /// It does not: the destination is too slow.
+    /// It does not: the destination is too slow, and a file keeps the rest.
     Slow,
 }
 
 impl Drain {
-    /// A drain that begins at these milliseconds, and lasts for this many seconds at most.
-    pub fn new(millis: u64, seconds: u64) -> Drain
-        ensures { result.end ≡ min (millis + min (seconds * 1000) (2 ^ 64 - 1)) (2 ^ 64 - 1) }
+    /// A drain that begins at these milliseconds, and lasts for this many seconds at most; and whether files keep what is not
+    /// sent.
+    pub fn new(millis: u64, seconds: u64, has_files: bool) -> Drain
+        ensures end { result.end ≡ min (millis + min (seconds * 1000) (2 ^ 64 - 1)) (2 ^ 64 - 1) }
+        ensures files { result.has_files ≡ has_files }
     {
         Drain {
             end: millis.saturating_add(seconds.saturating_mul(1_000)),
+            has_files,
             progress: [DrainProgress::nothing(millis); MOST_DESTINATIONS],
         }
     }
@@ -79,9 +84,10 @@ impl Drain {
         // Before that it is over only if it waits for no destination, by what it saw of each.
         ensures not_before { result ≡ true → millis < self.old.end
             → (place : ℕ) → place < min (length unsent.now.noted.dests.now) MOST_DESTINATIONS
-            → IsNotWaitedFor millis self.old.end
+            → IsNotWaitedFor millis self.old.end self.old.has_files
             (seen_of self.old.progress place) (seen_of self.new.progress place) }
         ensures end { self.new.end ≡ self.old.end }
+        ensures files { self.new.has_files ≡ self.old.has_files }
     {
         let (mut stuck, mut slow) = (0, 0);
         let mut is_over = true;
@@ -109,19 +115,20 @@ impl Drain {
         millis: u64,
     ) -> Waits
         requires place { (place < B.dests) × (place < 64) }
-        ensures look { IsLook millis self.old.end
+        ensures look { IsLook millis self.old.end self.old.has_files
             (seen_of self.old.progress place) (seen_of self.new.progress place) result }
         ensures others { (other : ℕ) → other ≢ place
             → seen_of self.new.progress other ≡ seen_of self.old.progress other }
         ensures end { self.new.end ≡ self.old.end }
+        ensures files { self.new.has_files ≡ self.old.has_files }
     {
         if !unsent.is_up(place) || unsent.is_behind(place) {
             self.progress[place] = DrainProgress::nothing(millis);
             return Waits::Done;
         }
         let left = unsent.left_at(rt, place);
-        let end = self.end;
-        self.progress[place].look(left, millis, end)
+        let (end, has_files) = (self.end, self.has_files);
+        self.progress[place].look(left, millis, end, has_files)
     }
 }
 
@@ -130,7 +137,7 @@ impl DrainProgress {
     ghost use Rattle.run_state.specs.Drain.{nothing_seen, progress_after, with_left, with_first_look, with_look, waits_for, is_slow};
 
     /// Nothing was seen of it before these milliseconds.
-    fn nothing(millis: u64) -> DrainProgress
+    pub(crate) fn nothing(millis: u64) -> DrainProgress
         ensures { result ≡ nothing_seen millis }
     {
         let look = Look {
@@ -145,10 +152,10 @@ impl DrainProgress {
         }
     }
 
-    /// It has this much left, at these milliseconds; the drain ends at those.
-    fn look(&mut self, left: u64, millis: u64, end: u64) -> Waits
+    /// It has this much left, at these milliseconds; the drain ends at those, and files keep what is not sent or do not.
+    pub(crate) fn look(&mut self, left: u64, millis: u64, end: u64, has_files: bool) -> Waits
         ensures progress { self.new ≡ progress_after left millis self.old }
-        ensures waits { result ≡ waits_for left millis end self.new }
+        ensures waits { result ≡ waits_for left millis end has_files self.new }
     {
         self.note_left(left, millis);
         if left == 0 {
@@ -156,7 +163,7 @@ impl DrainProgress {
         }
         self.note_first_look(left, millis);
         self.note_look(left, millis);
-        self.waits_for(left, millis, end)
+        self.waits_for(left, millis, end, has_files)
     }
 
     /// It has taken something since the look before, if it has less left.
@@ -190,14 +197,14 @@ impl DrainProgress {
     }
 
     /// Whether the drain waits for it, with this much left at these milliseconds.
-    fn waits_for(&self, left: u64, millis: u64, end: u64) -> Waits
-        ensures { result ≡ waits_for left millis end self.now }
+    fn waits_for(&self, left: u64, millis: u64, end: u64, has_files: bool) -> Waits
+        ensures { result ≡ waits_for left millis end has_files self.now }
     {
         if left == 0 {
             Waits::Done
         } else if millis.saturating_sub(self.moved) >= LONGEST_PAUSE_MS {
             Waits::Stuck
-        } else if self.is_slow(left, millis, end) {
+        } else if has_files && self.is_slow(left, millis, end) {
             Waits::Slow
         } else {
             Waits::Yes

@@ -2,13 +2,14 @@
 //!
 //! [`RunState`] has it all: the signals between the threads ([`Signals`]), how many connections each receiver of lines holds,
 //! what destinations note of their connections, and what becomes at the end of what is queued ([`EndState`]).
-//! Each thread does a [`ThreadWork`]. [`Unsent`] knows what is not sent yet, [`Drain`] for whom a relay that drains waits, and [`SpoolWait`] when files have the
-//! rest.
+//! Each thread does a [`ThreadWork`]. [`Unsent`] knows what is not sent yet, [`Drain`] and [`GoneDrain`]
+//! for whom a relay that drains waits, and [`SpoolWait`] when files have the rest.
 #![tactic(auto)]
 
 mod counters;
 mod drain;
 mod end_state;
+mod gone_drain;
 mod gone_notes;
 mod rest_notes;
 mod run_notes;
@@ -20,6 +21,7 @@ mod unsent;
 
 pub use drain::Drain;
 pub use end_state::EndState;
+pub use gone_drain::GoneDrain;
 pub use gone_notes::{GoneEnd, GoneNotes};
 pub use rest_notes::RestNotes;
 pub use run_notes::RunNotes;

@@ -32,7 +32,7 @@ mod wire;
 pub use alarm::Alarm;
 pub use connect::Connect;
 pub use host_addresses::HostAddresses;
-pub use host_lookup::HostLookup;
+pub use host_lookup::{HostLookup, HostThreads};
 pub use kept_socket::KeptSocket;
 pub use lookup::{Lookup, LookupAnswer};
 pub use resolve::Resolve;

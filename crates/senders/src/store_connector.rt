@@ -2,7 +2,7 @@
 
 use crate::alarm::Alarm;
 use crate::connect::Connect;
-use crate::host_lookup::HostLookup;
+use crate::host_lookup::{HostLookup, HostThreads};
 use crate::kept_socket::KeptSocket;
 use crate::link::Link;
 use crate::lookup::Lookup;
@@ -42,17 +42,18 @@ pub struct StoreConnector<'g, R, L = HostLookup<R>> {
 
 impl<'g, R: Threads + Wait + Net + Resolve + Copy + Send + Drop + 'static> StoreConnector<'g, R> {
     /// The connector of a sender to its share of these destinations, by this readiness, whose waits the
-    /// alarm ends. Hosts are looked up by `rt`, each in a thread of its own. Refuses if out of memory (`NoMemory`).
+    /// alarm ends. Hosts are looked up by these threads. Refuses if out of memory (`NoMemory`).
     pub fn new(
         rt: R,
         alloc: Global,
+        threads: &HostThreads,
         readiness: Readiness,
         alarm: &'g Alarm,
         dests: &[Dest],
         sender: usize,
         senders: usize,
     ) -> Result<StoreConnector<'g, R>, ReadinessFault> {
-        let Ok(lookup) = HostLookup::new(rt, alloc, dests, sender, senders) else {
+        let Ok(lookup) = HostLookup::new(rt, alloc, threads, dests, sender, senders) else {
             drop(readiness);
             return Err(ReadinessFault::NoMemory);
         };

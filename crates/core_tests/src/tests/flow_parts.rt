@@ -14,7 +14,7 @@ use mio_loops::{Readiness, SystemTimes};
 use reader_core::ReaderKind;
 use receivers::{ReceiverRecord, StreamListener, StreamPort, receive_streams};
 use relay_base::DestId;
-use senders::{Alarm, Resolve, SenderRecord, StoreConnector, send_batches};
+use senders::{Alarm, HostThreads, Resolve, SenderRecord, StoreConnector, send_batches};
 use std::alloc::Global;
 use std::io::Write;
 use std::net::{Net, TcpListener, TcpStream};
@@ -180,7 +180,17 @@ fn connector_of<'g, R: Threads + Wait + Clock + Net + Resolve + Copy + Send + Dr
     alarm: &'g Alarm,
     dests: &[Dest],
 ) -> Option<StoreConnector<'g, R>> {
-    StoreConnector::new(*rt, alloc, readiness?, alarm, dests, 0, 1).ok()
+    StoreConnector::new(
+        *rt,
+        alloc,
+        &HostThreads::new(alloc),
+        readiness?,
+        alarm,
+        dests,
+        0,
+        1,
+    )
+    .ok()
 }
 
 fn send_by<B: Set, R: Threads + Wait + Clock + Net + Resolve + Copy + Send + Drop + 'static>(

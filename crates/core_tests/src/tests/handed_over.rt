@@ -101,7 +101,10 @@ fn sent(
     for _ in 0..MOST_TURNS {
         match rest.send(&mut gathered) {
             RestTurn::Over(sink) => return Some(sink),
-            RestTurn::Lost => return None,
+            RestTurn::Lost => {
+                rest.lose();
+                return None;
+            }
             RestTurn::Kept => rest.note_ready(),
         }
     }

@@ -4,7 +4,7 @@ use Rattle.std.proofs.lemmas.List.{length_push}
 use Rattle.std.proofs.lemmas.Iterator.Splits.{YieldsList-from_slice_split}
 use Rattle.std.proofs.lemmas.Iterator.Consumers.{YieldsList-turn, YieldsList-end}
 use Rattle.admin_client.specs.AdminCommand.{is_newline}
-use Rattle.admin_client.specs.ReloadRequest.{value_in}
+use Rattle.admin_client.specs.FilesAnswer.{value_in}
 use Rattle.admin_client.proofs.Lines.{value_found, none_here, none_left}
 use Rattle.admin_client.proofs.reload_files.value_in.Goals as goal
 

@@ -1,7 +1,7 @@
 use Rattle.std.proofs.Common.{◌≡◌, length, drop}
 use Rattle.std.specs.List.{slice_split}
 use Rattle.admin_client.specs.AdminCommand.{is_newline}
-use Rattle.admin_client.specs.ReloadRequest.{first_behind, value_in}
+use Rattle.admin_client.specs.FilesAnswer.{first_behind, value_in}
 use Rattle.admin_client.proofs.reload_files.value_in.Given as goal
 
 -- no line so far begins with the words

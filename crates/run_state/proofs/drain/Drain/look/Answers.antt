@@ -13,6 +13,7 @@ loop-place-preserved g c =
     let here = c.loop-place.place in
     record {
       end = c.look_at.ensures.end ∙ c.loop-place.invariant.end;
+      files = c.look_at.ensures.files ∙ c.loop-place.invariant.files;
       others = λ place behind. c.look_at.ensures.others place (λ same. omega (arith, behind, same)) ∙ c.loop-place.invariant.others place (omega (arith, behind));
       over = λ over place passed.
           let was : c.loop-place.is_over ≡ true = elim c.match-look_at.branch [
@@ -27,11 +28,12 @@ loop-place-preserved g c =
             | in-Stuck w ↦ grind (arith, w.in-Stuck.is, yes)
             | in-Slow w ↦ grind (arith, w.in-Slow.is, yes)
           ] in
-          let look = subst (λ e. IsLook c.args.millis e (seen_of before.progress here) (seen_of after.progress here) c.look_at.result) c.loop-place.invariant.end c.look_at.ensures.look in
-          let look_here = subst (λ b. IsLook c.args.millis first.end b (seen_of after.progress here) c.look_at.result) (c.loop-place.invariant.others here (omega arith)) look in
+          let look = subst (λ e. IsLook c.args.millis e before.has_files (seen_of before.progress here) (seen_of after.progress here) c.look_at.result) c.loop-place.invariant.end c.look_at.ensures.look in
+          let look_files = subst (λ f. IsLook c.args.millis first.end f (seen_of before.progress here) (seen_of after.progress here) c.look_at.result) c.loop-place.invariant.files look in
+          let look_here = subst (λ b. IsLook c.args.millis first.end first.has_files b (seen_of after.progress here) c.look_at.result) (c.loop-place.invariant.others here (omega arith)) look_files in
           elim (eqb_tells place here) [
-            | inl same ↦ subst (λ p. IsNotWaitedFor c.args.millis first.end (seen_of first.progress p) (seen_of after.progress p)) (sym same.1) (c.look_at.result, look_here, not)
-            | inr other ↦ subst (λ a. IsNotWaitedFor c.args.millis first.end (seen_of first.progress place) a) (sym (c.look_at.ensures.others place other.1)) (c.loop-place.invariant.over was place (omega (arith, passed, other.1)))
+            | inl same ↦ subst (λ p. IsNotWaitedFor c.args.millis first.end first.has_files (seen_of first.progress p) (seen_of after.progress p)) (sym same.1) (c.look_at.result, look_here, not)
+            | inr other ↦ subst (λ a. IsNotWaitedFor c.args.millis first.end first.has_files (seen_of first.progress place) a) (sym (c.look_at.ensures.others place other.1)) (c.loop-place.invariant.over was place (omega (arith, passed, other.1)))
           ];
     }
 

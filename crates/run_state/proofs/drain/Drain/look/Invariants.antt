@@ -6,6 +6,7 @@ use Rattle.run_state.proofs.drain.Drain.look.Given as goal
 abbrev pub invariant-loop-place : goal.invariant-loop-place
 invariant-loop-place g l = record {
   end : l.self.end ≡ l.fn.self.end;
+  files : l.self.has_files ≡ l.fn.self.has_files;
   others : (place : ℕ) → l.place ≤ place → seen_of l.self.progress place ≡ seen_of l.fn.self.progress place;
-  over : l.is_over ≡ true → (place : ℕ) → place < l.place → IsNotWaitedFor l.millis l.fn.self.end (seen_of l.fn.self.progress place) (seen_of l.self.progress place);
+  over : l.is_over ≡ true → (place : ℕ) → place < l.place → IsNotWaitedFor l.millis l.fn.self.end l.fn.self.has_files (seen_of l.fn.self.progress place) (seen_of l.self.progress place);
 }

@@ -1,0 +1,80 @@
+//! The counts that a line of the log has.
+
+use relay_base::whole_number_up_to;
+use std::alloc::{AllocError, Global};
+
+/// A count of a line: its name, as `bad_lines`, and its number.
+#[derive(Clone, Copy)]
+pub struct Count {
+    /// The name, in the plural.
+    pub name: &'static str,
+    /// The number.
+    pub number: u64,
+}
+
+/// What a count has behind its number, and its name.
+static BEHIND: [(&str, &str); 18] = [
+    ("lines lost", "lines_lost"),
+    ("bad line", "bad_lines"),
+    ("bad pickle", "bad_pickles"),
+    ("bad row", "bad_rows"),
+    ("bad name", "bad_names"),
+    ("dropped name", "dropped_names"),
+    ("overlong line", "overlong_lines"),
+    ("overlong frame", "overlong_frames"),
+    ("overlong datagram", "overlong_datagrams"),
+    ("unfinished line", "unfinished_lines"),
+    ("unfinished frame", "unfinished_frames"),
+    ("idle connection", "idle_connections"),
+    ("broken connection", "broken_connections"),
+    ("memory shortage", "memory_shortages"),
+    ("system drop", "system_drops"),
+    ("datapoints spooled", "spooled"),
+    ("datapoints not sent", "not_sent"),
+    ("datapoints", "datapoints"),
+];
+
+/// What a count has before its number, and its name.
+static BEFORE: [(&str, &str); 2] = [("dropped", "dropped"), ("refused", "refused")];
+
+/// The counts of what a line says, in its order. Refuses if out of memory.
+pub fn counts_in(alloc: Global, what: &str) -> Result<Vec<Count>, AllocError> {
+    let mut counts = Vec::new(alloc);
+    for part in what.split(", ") {
+        if let Some(count) = count_in(part) {
+            counts.push(count)?;
+        }
+    }
+    Ok(counts)
+}
+
+/// The count of a part of a line, if it is one.
+fn count_in(part: &str) -> Option<Count> {
+    let (first, rest) = part.split_once(' ')?;
+    if let Some(number) = whole_number_up_to(first, u64::MAX) {
+        let name = name_behind(rest)?;
+        return Some(Count { name, number });
+    }
+    let (before, last) = part.rsplit_once(' ')?;
+    let number = whole_number_up_to(last, u64::MAX)?;
+    let name = name_before(before)?;
+    Some(Count { name, number })
+}
+
+fn name_behind(rest: &str) -> Option<&'static str> {
+    for (text, name) in &BEHIND {
+        if rest.starts_with(*text) {
+            return Some(*name);
+        }
+    }
+    None
+}
+
+fn name_before(before: &str) -> Option<&'static str> {
+    for (text, name) in &BEFORE {
+        if before.ends_with(*text) {
+            return Some(*name);
+        }
+    }
+    None
+}
