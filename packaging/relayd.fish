@@ -39,7 +39,7 @@ complete -c relayd -n '__relayd_command replay' -l lines -r -F -d 'A file of dat
 complete -c relayd -n '__relayd_command replay' -l text -d 'Also show as text what each destination got'
 complete -c relayd -n '__relayd_command run' -l senders -x -a '1 2 3 4 5 6 7 8' -d 'How many threads send'
 complete -c relayd -n '__relayd_command run' -l line-receivers -x -a '1 2 3 4 5 6' -d 'How many threads receive lines'
-complete -c relayd -n '__relayd_command run' -l idle -x -d 'Close connections that send no whole line or frame for that long'
+complete -c relayd -n '__relayd_command run' -l idle -x -d 'Close connections that send no datapoint for that long'
 complete -c relayd -n '__relayd_command run' -l drain -x -d 'How long to keep sending after stop'
 complete -c relayd -n '__relayd_command check run' -l spool -x -a '(__fish_complete_directories)' -d 'The directory for what was not sent'
 complete -c relayd -n '__relayd_command run' -l status -x -d 'The port of the status page'

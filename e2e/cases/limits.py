@@ -21,6 +21,8 @@ MOST_CONNECTIONS = 1_024     # of a receiver
 DESCRIPTORS = 64             # of a relay that needs more
 KEPT = 4                     # of them, which are neither for producers nor for stores
 PRODUCERS = 150              # more than that
+GIVES_WAY = 61               # seconds; who sent no datapoint for a minute gives way
+HONEST = 16
 MOST_DESTINATIONS = 64
 TRIES = 4                    # to connect to each of them
 SLOW = 0.1                   # seconds that the slow one takes once it answers
@@ -110,6 +112,33 @@ class Descriptors(WithRelays):
             self.assertFalse(any(map(is_over, streams)))
             streams[7].close()
             self.wait_for(lambda: self.is_taken(relay, store), "another has its place")
+            self.settles(relay)
+
+    def test_a_silent_one_gives_way(self):
+        """While all places are taken, the connection that has been without a datapoint longest gives way to a new one after a
+        minute, also if it sends blank and bad lines; those that send datapoints go on."""
+        self.needs_descriptors(3 * MOST_CONNECTIONS)
+        store, = self.stores(1)
+        dests = named(store.port)
+        with self.relay(dests, ONE_RULE.format(*dests)) as relay:
+            steady, *silent = self.producers(relay, MOST_CONNECTIONS)
+            silent[0].sendall(b"first 1 1\n")
+            self.wait_for(lambda: store.lines() == [b"first 1 1"], "all are taken")
+            early, = self.producers(relay, 1)
+            self.wait_for(lambda: is_over(early), "nobody gives way yet")
+            end = time.monotonic() + GIVES_WAY
+            while time.monotonic() < end:
+                steady.sendall(b"steady 1 1\n")
+                for stream in silent[1:3]:
+                    stream.sendall(b"\nbad\n")
+                time.sleep(1)
+            honest = self.producers(relay, HONEST)
+            for number, stream in enumerate(honest):
+                stream.sendall(b"honest%d 1 1\n" % number)
+            lines = {b"honest%d 1 1" % number for number in range(HONEST)}
+            self.wait_for(lambda: lines <= set(store.lines()), "all of them are read")
+            self.assertEqual(sum(map(is_over, silent)), HONEST)
+            self.assertFalse(is_over(steady) or any(map(is_over, honest)))
             self.settles(relay)
 
     def is_taken(self, relay, store):

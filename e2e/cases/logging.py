@@ -14,12 +14,17 @@ from fixtures.stores import Store, free_ports
 
 ALL = "[all]\ndefault = true\ndestinations = {}\n"
 CLOSED = b"closed by the store"
-REFUSED = b"cannot connect: connection refused (error 111)"
 PAUSES = b"paused: too many open files (error 24)"
 GOES_ON = b"accepting again"
 DESCRIPTORS = 64  # of a relay that lacks them
 PRODUCERS = 150   # more than that
 FILE_ROOM = 200   # bytes that a file may have
+
+
+def refused(dest):
+    """The line on a destination whose host is an address, at which nobody listens."""
+    host, port = dest.split(":")[:2]
+    return f"cannot connect to {host}:{port}: connection refused (error 111)".encode()
 
 
 def reset(store):
@@ -75,11 +80,11 @@ class Logging(WithRelays):
             self.expect_lines(relay, dest, b"connected")
             self.wait_for(store.is_connected, "the store has the connection")
             store.stop()
-            self.expect_lines(relay, dest, b"connected", b"lost: " + CLOSED, REFUSED)
+            self.expect_lines(relay, dest, b"connected", b"lost: " + CLOSED, refused(dest))
             again = Store(store.port)
             self.addCleanup(again.stop)
             again.start()
-            self.expect_lines(relay, dest, b"connected", b"lost: " + CLOSED, REFUSED, b"connected")
+            self.expect_lines(relay, dest, b"connected", b"lost: " + CLOSED, refused(dest), b"connected")
             self.ends_well(relay)
 
     def test_a_reset(self):
@@ -102,10 +107,10 @@ class Logging(WithRelays):
         unknown = "no-such-host.invalid:2003"
         there = f"127.0.0.1:{store.port}"
         with self.logged([gone, unknown, there], before=self.without_name_servers()) as relay:
-            self.expect_lines(relay, gone, REFUSED)
+            self.expect_lines(relay, gone, refused(gone))
             self.expect_lines(relay, unknown, b"cannot connect: host not found")
             time.sleep(3.2)
-            self.expect_lines(relay, gone, REFUSED)
+            self.expect_lines(relay, gone, refused(gone))
             self.expect_lines(relay, unknown, b"cannot connect: host not found")
             self.expect_lines(relay, there, b"connected")
             self.ends_well(relay)
@@ -129,29 +134,29 @@ class Logging(WithRelays):
         port, = free_ports(1)
         dest = f"127.0.0.1:{port}"
         with self.logged([dest], MAX_QUEUE_SIZE="10") as relay:
-            self.expect_lines(relay, dest, REFUSED)
+            self.expect_lines(relay, dest, refused(dest))
             relay.lines(b"a 1 1\n" * 25)
-            self.expect_lines(relay, dest, REFUSED, b"queue full, dropping")
+            self.expect_lines(relay, dest, refused(dest), b"queue full, dropping")
             time.sleep(2.2)
             relay.lines(b"a 1 1\n" * 7)
             self.wait_for(lambda: relay.totals()["dropped"] == 22, "all are dropped")
             store = Store(port)
             self.addCleanup(store.stop)
             store.start()
-            self.expect_lines(relay, dest, REFUSED, b"queue full, dropping", b"connected", b"stopped dropping, dropped 22")
+            self.expect_lines(relay, dest, refused(dest), b"queue full, dropping", b"connected", b"stopped dropping, dropped 22")
             self.assertEqual(relay.totals()["dropped"], 22)
             self.wait_for(lambda: len(store.lines()) == 10, "the store has read all")  # else its connection is reset
             store.stop()
-            lines = (REFUSED, b"queue full, dropping", b"connected", b"stopped dropping, dropped 22", b"lost: " + CLOSED)
-            self.expect_lines(relay, dest, *lines, REFUSED)
+            lines = (refused(dest), b"queue full, dropping", b"connected", b"stopped dropping, dropped 22", b"lost: " + CLOSED)
+            self.expect_lines(relay, dest, *lines, refused(dest))
             relay.lines(b"a 1 1\n" * 31)
-            self.expect_lines(relay, dest, *lines, REFUSED, b"queue full, dropping")
+            self.expect_lines(relay, dest, *lines, refused(dest), b"queue full, dropping")
             self.wait_for(lambda: relay.totals()["offered"] == 25 + 7 + 31, "all are offered")
             dropped = relay.totals()["dropped"]
             again = Store(port)
             self.addCleanup(again.stop)
             again.start()
-            self.expect_lines(relay, dest, *lines, REFUSED, b"queue full, dropping", b"connected",
+            self.expect_lines(relay, dest, *lines, refused(dest), b"queue full, dropping", b"connected",
                               b"stopped dropping, dropped %d" % (dropped - 22))
             self.assertEqual(relay.totals()["dropped"], dropped)
             self.ends_well(relay)

@@ -8,23 +8,24 @@ from cases import status
 from fixtures.harness import LIMIT
 from fixtures.stores import free_ports
 
-REWRITE = "[post]\n^dropped$ =\n"
+# The longest name has 16,384 bytes.
+REWRITE = f"[post]\n^dropped$ =\n^spoilt$ = {'x' * 16385}\n"
 MOST_CONNECTIONS = 1024
-FIELDS = ("connections", "datapoints", "bad_lines", "bad_pickles", "bad_rows", "bad_names", "refused")
+FIELDS = ("connections", "datapoints", "bad_lines", "bad_pickles", "bad_rows", "bad_names", "emptied_names", "refused")
 SERIES = ("relayd_receiver_connections", "relayd_receiver_datapoints_total", "relayd_receiver_bad_lines_total",
           "relayd_receiver_bad_pickles_total", "relayd_receiver_bad_rows_total", "relayd_receiver_bad_names_total",
-          "relayd_receiver_refused_connections_total")
+          "relayd_receiver_emptied_names_total", "relayd_receiver_refused_connections_total")
 # The page shows their numbers where they are not 0.
-WORDS = ("lines?", "pickles?", "rows?", "names?", "connections? refused")
+WORDS = ("lines?", "pickles?", "rows?", r"names? \(", "names? emptied by rewriting", "connections? refused")
 
 
-def rows(good, dropped, bad):
-    """A pickle of so many rows that are datapoints, that rewriting drops, and that are no datapoint."""
-    return pickle.dumps([("a", (1, 1))] * good + [("dropped", (1, 1))] * dropped + [("a b", (1, 1))] * bad, protocol=2)
+def rows(**names):
+    """A pickle of rows, so many of each name."""
+    return pickle.dumps([(name, (1, 1)) for name, count in names.items() for _ in range(count)], protocol=2)
 
 
 class ReceiverCounts(status.Serving):
-    """All seven numbers of receivers of each kind, all of them different."""
+    """All numbers of receivers of each kind, all of them different."""
 
     def open(self, port, count, text):
         """So many connections, the first of which sends this."""
@@ -48,11 +49,12 @@ class ReceiverCounts(status.Serving):
         self.needs_descriptors(2 * MOST_CONNECTIONS)
         dest = f"127.0.0.1:{free_ports(1)[0]}"
         with self.serving([dest], ("--line-receivers", "2"), rewrite=REWRITE) as relay:
-            self.open(relay.line, 3, b"a 1 1\n" * 9 + b"dropped 1 1\n" * 2 + b"bad\n" * 4)
-            pickles = (rows(7, 5, 6), b"x", b"y", b"z", b"", b".", b"0", b"1", b"2")
+            self.open(relay.line, 3, b"a 1 1\n" * 9 + b"dropped 1 1\n" * 2 + b"spoilt 1 1\n" * 5 + b"bad\n" * 4)
+            pickles = (rows(a=7, dropped=3, spoilt=5, **{"a b": 6}), b"x", b"y", b"z", b"", b".", b"0", b"1", b"2")
             self.open(relay.pickle, MOST_CONNECTIONS, b"".join(len(it).to_bytes(4, "big") + it for it in pickles))
-            relay.datagram(b"a 1 1\n" * 13 + b"dropped 1 1\n" + b"bad\n" * 10)
-            wanted = {"line": (3, 11, 4, 0, 0, 2, 0), "pickle": (MOST_CONNECTIONS, 12, 0, 8, 6, 5, 7), "udp": (0, 14, 10, 0, 0, 1, 0)}
+            relay.datagram(b"a 1 1\n" * 13 + b"dropped 1 1\n" + b"spoilt 1 1\n" * 2 + b"bad\n" * 10)
+            wanted = {"line": (3, 16, 4, 0, 0, 5, 2, 0), "pickle": (MOST_CONNECTIONS, 15, 0, 8, 6, 5, 3, 7),
+                      "udp": (0, 16, 10, 0, 0, 2, 1, 0)}
 
             def in_json():
                 found = {it["receiver"]: tuple(it[field] for field in FIELDS) for it in self.json(relay)["receivers"]}

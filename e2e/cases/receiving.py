@@ -1,7 +1,6 @@
 """What receivers do beside reading: why connections end and datagrams are lost, what the log says of it, and how they close."""
 
 import contextlib
-import json
 import os
 import pickle
 import re
@@ -13,11 +12,10 @@ import struct
 import subprocess
 import threading
 import time
-import urllib.request
 
 from fixtures.harness import LIMIT, Settings
 from fixtures.log import LINE, Log
-from fixtures.running import COMMAND_TRIES, WithRelays
+from fixtures.running import WithRelays, shown
 from fixtures.stores import free_ports
 
 ALL = "[all]\ndefault = true\ndestinations = {}\n"
@@ -105,15 +103,6 @@ def reset(stream):
     """Resets a connection."""
     stream.setsockopt(socket.SOL_SOCKET, socket.SO_LINGER, struct.pack("ii", 1, 0))
     stream.close()
-
-
-def shown(port):
-    """What a status server shows. It waits a second for a request; where that is too short for this machine it is asked again."""
-    for _ in range(COMMAND_TRIES):
-        with contextlib.suppress(ConnectionError), \
-                urllib.request.urlopen(f"http://127.0.0.1:{port}/status.json", timeout=LIMIT) as answer:
-            return json.load(answer)
-    raise AssertionError("the status server does not answer")
 
 
 class Receiving(WithRelays):
@@ -230,26 +219,27 @@ class Losses(Receiving):
             self.assertIsNone(self.last_of(relay, "line"))
 
     def test_a_trickle_is_idle(self):
-        """What counts is a whole line: a connection that sends a byte now and then is closed, one that sends lines is not; in
-        the longer form all places but one are taken so."""
-        count = MOST_CONNECTIONS - 1 if Settings.longer else 2
+        """What counts is a datapoint: a connection that sends a byte, a blank line or a bad one now and then is closed, one that
+        sends datapoints is not, also of names that a rule drops; in the longer form all places but two are taken so."""
+        count = MOST_CONNECTIONS - 2 if Settings.longer else 6
         self.needs_descriptors(2 * MOST_CONNECTIONS)
-        with self.logged(("--idle", str(IDLE))) as relay:
-            steady, *trickles = (self.connected(relay) for _ in range(1 + count))
-            open_ones, end = trickles, time.monotonic() + LIMIT
+        with self.logged(("--idle", str(IDLE)), rewrite="[pre]\n^dropped$ =\n") as relay:
+            steady, dropped, *trickles = (self.connected(relay) for _ in range(2 + count))
+            open_ones, end = dict(zip(trickles, (b"x", b"\n", b"bad\n") * count)), time.monotonic() + LIMIT
             while open_ones and time.monotonic() < end:
-                for trickle in open_ones:
+                for trickle, text in open_ones.items():
                     with contextlib.suppress(ConnectionError):
-                        trickle.sendall(b"x")
-                    steady.sendall(b"steady 1 1\n")
+                        trickle.sendall(text)
+                steady.sendall(b"steady 1 1\n")
+                dropped.sendall(b"dropped 1 1\n")
                 time.sleep(IDLE / 5)
-                open_ones = [trickle for trickle in open_ones if not is_closed(trickle)]
+                open_ones = {it: text for it, text in open_ones.items() if not is_closed(it)}
             self.assertLess(time.monotonic(), end, "the trickles are closed")
-            self.assertFalse(is_closed(steady))
+            self.assertFalse(is_closed(steady) or is_closed(dropped))
             relay.lines(b"later 1 1\n")
             self.wait_for(lambda: b"later 1 1" in relay.store.lines(), "another producer has a place")
             self.ends(relay)
-            self.assertEqual(self.last_of(relay, "line"), f"receiver line: {count} idle connections")
+            self.assertIn(f"receiver line: {count} idle connections\n".encode(), relay.log.lines)
 
     def test_datagrams_that_are_too_long(self):
         """IPv6 has longer ones than the limit: they are dropped whole."""
@@ -312,7 +302,7 @@ class Examples(Receiving):
     def test_pickles_and_datagrams(self):
         """They are named in the same way, at ports of IPv6 too."""
         for name, send, wanted in (
-                ("pickle", lambda relay: relay.pickles(b"no pickle"), b"bad pickle from 127.0.0.1: cannot be read"),
+                ("pickle", lambda relay: relay.pickles(b"no pickle"), b"bad pickle from 127.0.0.1: not a pickle"),
                 ("pickle", lambda relay: relay.pickles(pickle.dumps([("a", (1, "x"))], 2)),
                  b"bad row from 127.0.0.1: not a datapoint"),
                 ("udp", lambda relay: relay.datagram(b"good 1 1\na b"), b"bad line from 127.0.0.1: 2 fields")):
@@ -327,12 +317,53 @@ class Examples(Receiving):
                     self.assertEqual(self.example(relay, "line"), [b"receiver line: bad line from 127.0.0.1: 2 fields\n"])
             self.ends(relay)
 
+    def test_why_a_pickle_cannot_be_read(self):
+        """Also of a long one, which comes in several pieces, if its first bytes show it."""
+        row, whole = ("a", (1, 1)), ("a", (1, 2 ** 31))
+        for pickled, wanted in ((pickle.dumps([row], 0), b"protocol 0"), (pickle.dumps([row] * 2_000, 0), b"protocol 0"),
+                                (pickle.dumps([whole], 1), b"opcode 'L' of protocol 1"),
+                                (pickle.dumps([("a", (1, True))], 1), b"opcode 'I' of protocol 1"),
+                                (pickle.dumps([("a", (1, 1 + 1j))], 2), b"opcode 'c' of protocol 2"),
+                                (pickle.dumps([("a", (1, 1 + 1j))], 4), b"opcode 147 of protocol 4"),
+                                (b"\x80\x09]q\0.", b"protocol 9"), (pickle.dumps([row], 2)[:-1], b"ends too early"),
+                                (pickle.dumps(row, 2), b"not a list of rows"), (b"h\0.", b"a memo entry that is not there"),
+                                (b"]X\1\0\0\0\xff.", b"a text that is not UTF-8")):
+            with self.subTest(wanted), self.logged() as relay:
+                relay.pickles(pickle.dumps([row], 2), pickled)
+                self.assertEqual(self.example(relay, "pickle"), [b"receiver pickle: bad pickle from 127.0.0.1: " + wanted + b"\n"])
+                self.ends(relay)
+
     def test_a_name_that_rewriting_spoils(self):
-        with self.logged(rewrite="[pre]\n^spoil =\n") as relay:
-            relay.lines(b"spoil 1 1\n")
+        """One that a rule makes too long is bad. One that a rule empties is dropped on purpose, and no bad input."""
+        with self.logged(rewrite=f"[pre]\n^spoil$ = {'x' * LONG_LINE}\n^dropped$ =\n") as relay:
+            relay.lines(b"dropped 1 1\nspoil 1 1\ndropped 2 2\n")
             self.assertEqual(self.example(relay, "line"),
                              [b"receiver line: bad name from 127.0.0.1: not a metric name after rewriting\n"])
             self.ends(relay)
+            self.assertEqual(self.last_of(relay, "line"), "receiver line: 1 bad name")
+
+    def test_names_that_are_dropped_on_purpose(self):
+        """They are no bad input: the log has nothing of them, and the status is well."""
+        status, = free_ports(1)
+        options = ("--status", str(status), "--longest-name", "20")
+        with self.logged(options, rewrite="[pre]\n^dropped$ =\n") as relay:
+            self.wait_for(lambda: shown(status)["destinations"][0]["connected"], "the store is connected")
+            end = time.monotonic() + NOTING
+            while time.monotonic() < end:
+                relay.lines(b"dropped 1 1\n" + b"n" * 21 + b" 1 1\n")
+                relay.datagram(b"dropped 1 1\n")
+                time.sleep(0.1)
+            relay.lines(b"last 1 1\n")
+            self.wait_for(lambda: relay.store.lines() == [b"last 1 1"], "the others come")
+            self.wait_for(lambda: shown(status)["receivers"][0]["datapoints"] % 2 == 1, "all are counted")
+            counts = shown(status)
+            line, _pickle, udp = counts["receivers"]
+            self.assertEqual(counts["state"], "well")
+            self.assertEqual([it["bad_names"] for it in counts["receivers"]], [0, 0, 0])
+            self.assertEqual(line["emptied_names"], line["datapoints"] - 1)
+            self.assertEqual(udp["emptied_names"], udp["datapoints"])
+            self.ends(relay)
+            self.assertEqual([line for line in relay.log.lines if b"bad" in line], [])
 
     def test_not_more_than_one_a_minute(self):
         with self.logged() as relay:

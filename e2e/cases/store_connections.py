@@ -14,8 +14,8 @@ from fixtures.log import Log
 from fixtures.mounts import in_place
 from fixtures.networks import in_own_network
 from fixtures.refused import compiled
-from fixtures.running import WithRelays
-from fixtures.stores import Store
+from fixtures.running import WithRelays, shown
+from fixtures.stores import Store, free_ports
 
 ALL = "[all]\ndefault = true\ndestinations = {}\n"
 AT_ONCE = 0.5                # seconds; the tries of a destination begin a whole one apart
@@ -69,6 +69,30 @@ class Hosts(WithRelays):
             with self.subTest(name), self.relay_among(self.hosts(*names), f"{name}:{store.port}") as relay:
                 self.gets(store, relay, b"a 1 1")
                 self.settles(relay)
+
+    def test_an_address_that_refuses(self):
+        """The log says which; and the status is not away before each address was tried."""
+        store, = self.stores(1)
+        hosts = self.hosts("::1 two.example", "127.0.0.1 two.example")
+        name, (status,) = f"two.example:{store.port}", free_ports(1)
+        with self.relay_among(hosts, name, "--log", "--status", str(status)) as relay:
+            log, states = Log(relay.child.stderr), set()
+            while not store.is_connected():
+                states.add(shown(status)["state"])
+            self.wait_for(lambda: len(log.of(name)) == 2, "the log has it")
+            self.assertEqual(log.of(name), [f"cannot connect to [::1]:{store.port}: connection refused (error 111)".encode(),
+                                            b"connected"])
+            self.assertNotIn("away", states)
+            self.settles(relay)
+
+    def test_no_address_that_answers(self):
+        """Once each was tried, the status is away."""
+        port, status = free_ports(2)
+        hosts = self.hosts("::1 two.example", "127.0.0.1 two.example")
+        with self.relay_among(hosts, f"two.example:{port}", "--status", str(status)) as relay:
+            self.wait_for(lambda: shown(status)["state"] == "away", "the status says so")
+            self.assertGreater(shown(status)["destinations"][0]["failed_tries"], 1)
+            self.settles(relay)
 
     def test_the_address_that_was_connected_is_the_first(self):
         """Also where the system names another one first. Since the connection has stood for a second, the next one comes

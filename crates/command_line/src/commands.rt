@@ -177,7 +177,7 @@ pub(crate) static RUN: CommandWords = CommandWords {
         Word {
             name: "idle",
             form: Form::ValueOr("SECONDS", "0"),
-            help: "Closes a connection that sends no whole line or frame for SECONDS, 0 to 86400; 0 closes none",
+            help: "Closes a connection that sends no datapoint for SECONDS, 0 to 86400; 0 closes none",
         },
         Word {
             name: "drain",

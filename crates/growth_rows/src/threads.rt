@@ -80,7 +80,9 @@ impl Accept for OneConnection {
         }
     }
 
-    fn note_totals(&mut self, _totals: ReadTotals) {}
+    fn note_totals(&mut self, _totals: ReadTotals, _emptied: u64) {}
+
+    fn note_served(&mut self, _token: Token, _has_datapoints: bool) {}
 
     fn note_fault(&mut self, _fault: ReadinessFault) {}
 }
@@ -126,7 +128,7 @@ impl Datagrams for OneDatagram {
         self.datagram.read(buffer)
     }
 
-    fn note_totals(&mut self, _totals: ReadTotals) {}
+    fn note_totals(&mut self, _totals: ReadTotals, _emptied: u64) {}
 
     fn note_fault(&mut self, _fault: ReadinessFault) {}
 }

@@ -1,5 +1,6 @@
 -- The lines of the log.
-use Rattle.std.specs.Prelude.{ℕ, List, ◌++◌, codes, decimal}
+use Rattle.std.specs.Prelude.{ℕ, List, Some, None, ◌++◌, codes, decimal}
+use Rattle.std.specs.Net.Text.{socket_text}
 use Rattle.conf_text.specs.Destination.{Destination, destination_text}
 use Rattle.log_lines.specs.Why.{why_text}
 use Rattle.log_lines.specs.declared.logged_dest.DestEvent.{DestEvent}
@@ -11,7 +12,9 @@ abbrev pub dest_words : DestEvent → List ℕ
 dest_words event.Connected = codes "connected"
 dest_words (event.ConnectedAgain why) = codes "connected again, was lost: " ++ why_text why
 dest_words (event.Lost why) = codes "lost: " ++ why_text why
-dest_words (event.CannotConnect why) = codes "cannot connect: " ++ why_text why
+dest_words (event.CannotConnect why None) = codes "cannot connect: " ++ why_text why
+dest_words (event.CannotConnect why (Some to)) =
+    codes "cannot connect to " ++ socket_text to ++ codes ": " ++ why_text why
 dest_words event.BeginsToDrop = codes "queue full, dropping"
 dest_words (event.DropsNoMore dropped) = codes "stopped dropping, dropped " ++ decimal dropped
 

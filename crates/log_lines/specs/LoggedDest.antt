@@ -17,8 +17,8 @@ IsConnectionEvent logged now (Some (event.ConnectedAgain why)) =
     (now.is_up ≡ true) × ¬ (now.losses ≡ logged.losses) × (why ≡ now.loss)
 IsConnectionEvent logged now (Some (event.Lost why)) =
     (now.is_up ≡ false) × ¬ (now.losses ≡ logged.losses) × (why ≡ now.loss)
-IsConnectionEvent logged now (Some (event.CannotConnect why)) =
-    (now.is_up ≡ false) × (now.failure ≡ Some why) × ¬ (now.failure ≡ logged.failure)
+IsConnectionEvent logged now (Some (event.CannotConnect why to)) =
+    (now.is_up ≡ false) × (now.failure ≡ Some why) × (to ≡ now.failed_at) × ¬ (now.failure ≡ logged.failure)
 IsConnectionEvent logged now (Some event.BeginsToDrop) = ⊥
 IsConnectionEvent logged now (Some (event.DropsNoMore dropped)) = ⊥
 
@@ -36,7 +36,7 @@ IsDropEvent logged now (Some (event.DropsNoMore dropped)) =
 IsDropEvent logged now (Some event.Connected) = ⊥
 IsDropEvent logged now (Some (event.ConnectedAgain why)) = ⊥
 IsDropEvent logged now (Some (event.Lost why)) = ⊥
-IsDropEvent logged now (Some (event.CannotConnect why)) = ⊥
+IsDropEvent logged now (Some (event.CannotConnect why to)) = ⊥
 
 -- what a look reports: of the connection; of drops if there is nothing to report of that; or nothing
 abbrev pub IsDestEvent : LoggedDest → DestStatus → Option DestEvent → Type 0
@@ -71,7 +71,7 @@ abbrev pub dest_logged_after : LoggedDest → DestStatus → Option DestEvent �
 dest_logged_after logged now (Some event.Connected) = with_connection logged now None
 dest_logged_after logged now (Some (event.ConnectedAgain why)) = with_connection logged now None
 dest_logged_after logged now (Some (event.Lost why)) = with_connection logged now None
-dest_logged_after logged now (Some (event.CannotConnect why)) = with_connection logged now (Some why)
+dest_logged_after logged now (Some (event.CannotConnect why to)) = with_connection logged now (Some why)
 dest_logged_after logged now (Some event.BeginsToDrop) = with_drops logged now true logged.dropped
 dest_logged_after logged now (Some (event.DropsNoMore dropped)) = with_drops logged now false logged.before
 dest_logged_after logged now None = with_drops logged now logged.is_dropping logged.before

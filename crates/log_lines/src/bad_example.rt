@@ -2,14 +2,15 @@
 
 ghost use Rattle.std.specs.Prelude.{◌≡◌, ◌++◌, ◌&&◌, OnOk};
 ghost use Rattle.std.specs.String.{string_bytes};
-ghost use Rattle.log_lines.specs.BadExample.{example_line, example_logged_after, kind_words, wrong_words};
+ghost use Rattle.log_lines.specs.BadExample.{example_line, example_logged_after, kind_words, opcode_words, pickle_words, quoted_words, wrong_words};
 ghost use Rattle.log_lines.specs.LoggedCounts.{is_minute_over};
 
 use crate::counts_line::plural;
 use crate::logged_counts::is_minute_over;
+use crate::noted_address::NotedAddress;
 use std::alloc::AllocError;
 use std::fmt::Write as _;
-use std::net::{IpAddr, Ipv4Addr, Ipv6Addr};
+use std::net::IpAddr;
 use std::sync::atomic::{AtomicBool, AtomicU64, Ordering};
 
 /// What was wrong with bad input.
@@ -23,12 +24,33 @@ pub enum BadInput {
     Value,
     /// The time of a line is not a time.
     Time,
-    /// A pickle could not be read.
-    Pickle,
+    /// A pickle could not be read, for this reason.
+    Pickle { why: BadPickle },
     /// A row of a pickle is no datapoint.
     Row,
     /// The new name of a datapoint, after rewriting, is not a metric name.
     NewName,
+}
+
+/// Why a pickle could not be read.
+#[derive(Clone, Copy, Debug, PartialEq)]
+pub enum BadPickle {
+    /// It was not looked at whole.
+    Unknown,
+    /// It does not begin as a pickle.
+    NoPickle,
+    /// Its protocol is not read.
+    Protocol { protocol: u8 },
+    /// An opcode of its protocol is not read.
+    Opcode { byte: u8, protocol: u8 },
+    /// It ends before STOP, or inside an argument.
+    CutOff,
+    /// It is not a list of rows.
+    NoRows,
+    /// It takes from the memo what is not there.
+    Memo,
+    /// A text is not UTF-8.
+    Text,
 }
 
 /// An example of bad input, and the address of the producer that sent it.
@@ -63,7 +85,7 @@ fn kind_words(input: BadInput) -> &'static str
     ensures { result.now ≡ kind_words input }
 {
     match input {
-        BadInput::Pickle => "bad pickle",
+        BadInput::Pickle { .. } => "bad pickle",
         BadInput::Row => "bad row",
         BadInput::NewName => "bad name",
         _ => "bad line",
@@ -79,10 +101,46 @@ fn push_wrong(text: &mut String, input: BadInput) -> Result<(), AllocError>
         BadInput::Name => text.push_str("not a metric name"),
         BadInput::Value => text.push_str("not a value"),
         BadInput::Time => text.push_str("not a time"),
-        BadInput::Pickle => text.push_str("cannot be read"),
+        BadInput::Pickle { why } => push_pickle(text, why),
         BadInput::Row => text.push_str("not a datapoint"),
         BadInput::NewName => text.push_str("not a metric name after rewriting"),
     }
+}
+
+/// Adds why a pickle could not be read.
+fn push_pickle(text: &mut String, why: BadPickle) -> Result<(), AllocError>
+    ensures { OnOk result (string_bytes text.new ≡ string_bytes text.old ++ pickle_words why) }
+{
+    match why {
+        BadPickle::Unknown => text.push_str("cannot be read"),
+        BadPickle::NoPickle => text.push_str("not a pickle"),
+        BadPickle::Protocol { protocol } => write!(text, "protocol {protocol}"),
+        BadPickle::Opcode { byte, protocol } => push_opcode(text, byte, protocol),
+        BadPickle::CutOff => text.push_str("ends too early"),
+        BadPickle::NoRows => text.push_str("not a list of rows"),
+        BadPickle::Memo => text.push_str("a memo entry that is not there"),
+        BadPickle::Text => text.push_str("a text that is not UTF-8"),
+    }
+}
+
+/// Adds an opcode as a character, as in `opcode 'L' of protocol 1`, or as a number if it is none that prints.
+fn push_opcode(text: &mut String, byte: u8, protocol: u8) -> Result<(), AllocError>
+    ensures { OnOk result (string_bytes text.new ≡ string_bytes text.old ++ opcode_words byte protocol) }
+{
+    if byte <= b' ' || 127 <= byte {
+        write!(text, "opcode {byte} of protocol {protocol}")
+    } else {
+        push_quoted_opcode(text, byte, protocol)
+    }
+}
+
+/// Adds an opcode as a character.
+fn push_quoted_opcode(text: &mut String, byte: u8, protocol: u8) -> Result<(), AllocError>
+    ensures { OnOk result (string_bytes text.new ≡ string_bytes text.old ++ quoted_words byte protocol) }
+{
+    text.push_str("opcode '")?;
+    text.push(char::from(byte))?;
+    write!(text, "' of protocol {protocol}")
 }
 
 /// When the log has written its last example of a receiver.
@@ -115,13 +173,10 @@ impl LoggedExample {
 #[derive(Drop)]
 pub(crate) struct ExamplePlace {
     is_full: AtomicBool,
-    // The number of what was wrong, and of fields.
+    // The number of what was wrong, and another one that belongs to it, as that of fields.
     input: AtomicU64,
     fields: AtomicU64,
-    // The address: of IPv4 four bytes, of IPv6 two halves.
-    is_ipv6: AtomicBool,
-    first: AtomicU64,
-    second: AtomicU64,
+    from: NotedAddress,
 }
 
 impl ExamplePlace {
@@ -131,9 +186,7 @@ impl ExamplePlace {
             is_full: AtomicBool::new(false),
             input: AtomicU64::new(0),
             fields: AtomicU64::new(0),
-            is_ipv6: AtomicBool::new(false),
-            first: AtomicU64::new(0),
-            second: AtomicU64::new(0),
+            from: NotedAddress::new(),
         }
     }
 
@@ -150,10 +203,7 @@ impl ExamplePlace {
         let (input, fields) = code_of(example.input);
         self.input.store(input, Ordering::SeqCst);
         self.fields.store(fields, Ordering::SeqCst);
-        let (is_ipv6, first, second) = halves_of(example.from);
-        self.is_ipv6.store(is_ipv6, Ordering::SeqCst);
-        self.first.store(first, Ordering::SeqCst);
-        self.second.store(second, Ordering::SeqCst);
+        self.from.store(example.from);
         self.is_full.store(true, Ordering::SeqCst);
     }
 
@@ -162,17 +212,12 @@ impl ExamplePlace {
         if self.is_empty() {
             return None;
         }
-        let first = self.first.load(Ordering::SeqCst);
         Some(BadExample {
             input: input_of(
                 self.input.load(Ordering::SeqCst),
                 self.fields.load(Ordering::SeqCst),
             ),
-            from: if self.is_ipv6.load(Ordering::SeqCst) {
-                IpAddr::V6(ipv6_of(first, self.second.load(Ordering::SeqCst)))
-            } else {
-                IpAddr::V4(ipv4_of(first))
-            },
+            from: self.from.load(),
         })
     }
 
@@ -182,53 +227,61 @@ impl ExamplePlace {
     }
 }
 
-/// The number of what was wrong, and the number of fields.
+/// The number of what was wrong, and another one, as that of fields.
 fn code_of(input: BadInput) -> (u64, u64) {
     match input {
         BadInput::Fields { count } => (0, count),
         BadInput::Name => (1, 0),
         BadInput::Value => (2, 0),
         BadInput::Time => (3, 0),
-        BadInput::Pickle => (4, 0),
         BadInput::Row => (5, 0),
         BadInput::NewName => (6, 0),
+        BadInput::Pickle { why } => pickle_code(why),
     }
 }
 
-/// What was wrong, by its number, with this number of fields.
+/// The number of why a pickle could not be read, and another one: its protocol, and of an opcode 256 times its byte more.
+fn pickle_code(why: BadPickle) -> (u64, u64) {
+    match why {
+        BadPickle::Unknown => (10, 0),
+        BadPickle::NoPickle => (11, 0),
+        BadPickle::Protocol { protocol } => (12, u64::from(protocol)),
+        BadPickle::Opcode { byte, protocol } => {
+            (13, u64::from(byte) * 256 + u64::from(protocol))
+        }
+        BadPickle::CutOff => (14, 0),
+        BadPickle::NoRows => (15, 0),
+        BadPickle::Memo => (16, 0),
+        BadPickle::Text => (17, 0),
+    }
+}
+
+/// What was wrong, by its number and the other one.
 fn input_of(code: u64, fields: u64) -> BadInput {
     match code {
         0 => BadInput::Fields { count: fields },
         1 => BadInput::Name,
         2 => BadInput::Value,
         3 => BadInput::Time,
-        4 => BadInput::Pickle,
         5 => BadInput::Row,
-        _ => BadInput::NewName,
+        6 => BadInput::NewName,
+        _ => BadInput::Pickle {
+            why: pickle_of(code, fields),
+        },
     }
 }
 
-/// Whether an address is of IPv6, and its bytes as two numbers.
-fn halves_of(address: IpAddr) -> (bool, u64, u64) {
-    match address {
-        IpAddr::V4(ip) => (false, u64::from(ip.to_bits()), 0),
-        IpAddr::V6(ip) => {
-            let [a, b, c, d, e, f, g, h, i, j, k, l, m, n, o, p] = ip.octets();
-            let first = u64::from_be_bytes([a, b, c, d, e, f, g, h]);
-            (true, first, u64::from_be_bytes([i, j, k, l, m, n, o, p]))
-        }
+/// Why a pickle could not be read, by its number and the other one.
+fn pickle_of(code: u64, other: u64) -> BadPickle {
+    let [_, _, _, _, _, _, byte, protocol] = other.to_be_bytes();
+    match code {
+        11 => BadPickle::NoPickle,
+        12 => BadPickle::Protocol { protocol },
+        13 => BadPickle::Opcode { byte, protocol },
+        14 => BadPickle::CutOff,
+        15 => BadPickle::NoRows,
+        16 => BadPickle::Memo,
+        17 => BadPickle::Text,
+        _ => BadPickle::Unknown,
     }
-}
-
-/// The address of IPv4 with this number.
-fn ipv4_of(number: u64) -> Ipv4Addr {
-    let [_, _, _, _, a, b, c, d] = number.to_be_bytes();
-    Ipv4Addr::from_octets([a, b, c, d])
-}
-
-/// The address of IPv6 with these halves.
-fn ipv6_of(first: u64, second: u64) -> Ipv6Addr {
-    let [a, b, c, d, e, f, g, h] = first.to_be_bytes();
-    let [i, j, k, l, m, n, o, p] = second.to_be_bytes();
-    Ipv6Addr::from_octets([a, b, c, d, e, f, g, h, i, j, k, l, m, n, o, p])
 }

@@ -1,6 +1,8 @@
 //! What a sender notes of a destination.
 
+use crate::noted_address::NotedAddress;
 use crate::why::Why;
+use std::net::SocketAddr;
 use std::sync::atomic::{AtomicBool, AtomicU32, AtomicU64, Ordering};
 
 /// What happened to the connections of a destination. Its sender alone notes it; the thread that writes the log
@@ -18,6 +20,11 @@ pub struct DestNotes {
     loss: AtomicU32,
     has_failed: AtomicBool,
     failure: AtomicU32,
+    // The address and the port that the last try that failed went to; port 0 if it went to none.
+    failed_at: NotedAddress,
+    failed_port: AtomicU32,
+    // Whether it was never connected, and not all addresses of its host were tried.
+    is_starting: AtomicBool,
     // What went wrong last, if anything did.
     has_error: AtomicBool,
     error: AtomicU32,
@@ -33,6 +40,8 @@ pub struct DestNotes {
 pub struct DestStatus {
     /// Whether it has a connection.
     pub is_up: bool,
+    /// Whether it was never connected, and not all addresses of its host were tried.
+    pub is_starting: bool,
     /// The milliseconds of its sender's clock at which it was connected, if it is up, and otherwise at which it was
     /// first seen without a connection. The sender notes that in the turn after a loss.
     pub since: u64,
@@ -50,6 +59,8 @@ pub struct DestStatus {
     pub loss: Why,
     /// Why it cannot be connected, if the last try failed.
     pub failure: Option<Why>,
+    /// Where that try went, if it went to an address.
+    pub failed_at: Option<SocketAddr>,
     /// How many datapoints its queue has dropped.
     pub dropped: u64,
     /// Whether its queue has room.
@@ -77,6 +88,9 @@ impl DestNotes {
             loss: AtomicU32::new(0),
             has_failed: AtomicBool::new(false),
             failure: AtomicU32::new(0),
+            failed_at: NotedAddress::new(),
+            failed_port: AtomicU32::new(0),
+            is_starting: AtomicBool::new(true),
             has_error: AtomicBool::new(false),
             error: AtomicU32::new(0),
             since: AtomicU64::new(0),
@@ -90,6 +104,7 @@ impl DestNotes {
         self.has_failed.store(false, Ordering::SeqCst);
         self.since.store(millis, Ordering::SeqCst);
         self.is_down_noted.store(false, Ordering::SeqCst);
+        self.is_starting.store(false, Ordering::SeqCst);
         let _before = self.made.fetch_add(1, Ordering::SeqCst);
     }
 
@@ -118,12 +133,18 @@ impl DestNotes {
         }
     }
 
-    /// A try to connect failed.
-    pub fn note_failure(&self, why: Why) {
+    /// A try to connect failed, which went to this address, if to any.
+    pub fn note_failure(&self, why: Why, address: Option<SocketAddr>) {
         self.failure.store(why.code(), Ordering::SeqCst);
+        self.note_failed_at(address);
         self.has_failed.store(true, Ordering::SeqCst);
         self.note_error(why);
         let _before = self.failures.fetch_add(1, Ordering::SeqCst);
+    }
+
+    /// Each address of the host was tried.
+    pub fn note_all_tried(&self) {
+        self.is_starting.store(false, Ordering::SeqCst);
     }
 
     /// A connection took this number of bytes in one write.
@@ -152,6 +173,7 @@ impl DestNotes {
         let losses = self.losses.load(Ordering::SeqCst);
         DestStatus {
             is_up: made > losses,
+            is_starting: self.is_starting.load(Ordering::SeqCst),
             since: self.since.load(Ordering::SeqCst),
             last_error: self.last_error(),
             is_lookup_long: self.is_lookup_long.load(Ordering::SeqCst),
@@ -160,6 +182,7 @@ impl DestNotes {
             failures: self.failures.load(Ordering::SeqCst),
             loss: Why::of_code(self.loss.load(Ordering::SeqCst)),
             failure: self.failure(),
+            failed_at: self.failed_at(),
             dropped,
             has_room,
         }
@@ -191,6 +214,26 @@ impl DestNotes {
             Some(Why::of_code(self.failure.load(Ordering::SeqCst)))
         } else {
             None
+        }
+    }
+
+    /// Notes where the last try that failed went.
+    fn note_failed_at(&self, address: Option<SocketAddr>) {
+        if let Some(address) = address {
+            self.failed_at.store(address.ip());
+        }
+        let port = match address {
+            Some(address) => u32::from(address.port()),
+            None => 0,
+        };
+        self.failed_port.store(port, Ordering::SeqCst);
+    }
+
+    /// Where the last try that failed went.
+    fn failed_at(&self) -> Option<SocketAddr> {
+        match u16::try_from(self.failed_port.load(Ordering::SeqCst)) {
+            Ok(0) | Err(_) => None,
+            Ok(port) => Some(SocketAddr::new(self.failed_at.load(), port)),
         }
     }
 }

@@ -16,11 +16,12 @@ mod logged_dest;
 mod logged_lookup;
 mod losses;
 mod losses_line;
+mod noted_address;
 mod receiver_counts;
 mod receiver_notes;
 mod why;
 
-pub use bad_example::{BadExample, BadInput, LoggedExample, push_example_line};
+pub use bad_example::{BadExample, BadInput, BadPickle, LoggedExample, push_example_line};
 pub use counts_line::{push_lookup_line, push_receiver_counts_line, push_refusals_line};
 pub use dest_notes::{DestNotes, DestStatus, DestWrites};
 pub use end_lines::{

@@ -5,6 +5,7 @@ ghost use Rattle.log_lines.specs.LoggedDest.{IsConnectionEvent, IsDropEvent, IsD
 
 use crate::dest_notes::DestStatus;
 use crate::why::Why;
+use std::net::SocketAddr;
 
 /// An event of a destination.
 #[derive(Clone, Copy)]
@@ -15,8 +16,8 @@ pub enum DestEvent {
     ConnectedAgain { why: Why },
     /// Its connection is lost.
     Lost { why: Why },
-    /// It cannot be connected.
-    CannotConnect { why: Why },
+    /// It cannot be connected; the try went to this address, if to any.
+    CannotConnect { why: Why, to: Option<SocketAddr> },
     /// Its queue is full, and drops new datapoints.
     BeginsToDrop,
     /// Its queue has room again, and had dropped this number of datapoints.
@@ -94,7 +95,10 @@ fn connection_event(logged: &LoggedDest, now: &DestStatus) -> Option<DestEvent>
     }
     match now.failure {
         Some(why) if !now.is_up && now.failure != logged.failure => {
-            Some(DestEvent::CannotConnect { why })
+            Some(DestEvent::CannotConnect {
+                why,
+                to: now.failed_at,
+            })
         }
         _ => None,
     }
@@ -124,7 +128,7 @@ fn logged_after(logged: &LoggedDest, now: &DestStatus, event: Option<DestEvent>)
         Some(DestEvent::Connected | DestEvent::ConnectedAgain { .. } | DestEvent::Lost { .. }) => {
             with_connection(logged, now, None)
         }
-        Some(DestEvent::CannotConnect { why }) => with_connection(logged, now, Some(why)),
+        Some(DestEvent::CannotConnect { why, .. }) => with_connection(logged, now, Some(why)),
         Some(DestEvent::BeginsToDrop) => with_drops(logged, now, true, logged.dropped),
         Some(DestEvent::DropsNoMore { .. }) => with_drops(logged, now, false, logged.before),
         None => with_drops(logged, now, logged.is_dropping, logged.before),

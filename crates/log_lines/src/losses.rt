@@ -13,7 +13,7 @@ pub enum LossReason {
     Overlong,
     /// A connection ended within a line or a frame.
     Unfinished,
-    /// A connection sent no whole line or frame for as long as it may, and was closed.
+    /// A connection sent no datapoint for as long as it may, and was closed.
     Idle,
     /// Memory was short, and a connection was closed or a datagram was dropped.
     MemoryShort,

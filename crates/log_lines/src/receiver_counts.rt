@@ -8,13 +8,15 @@ use reader_counts::{ReaderCounts, ReaderTotals};
 use std::sync::atomic::{AtomicU64, Ordering};
 
 /// How many counts there are.
-const COUNTS: usize = 7;
+const COUNTS: usize = 8;
 
 /// What a receiver has counted since the start, and how many connections it has open now.
 #[derive(Clone, Copy)]
 pub struct ReceiverCounts {
-    /// What its readers counted of all that they were fed.
+    /// What its readers counted of all that they were fed. Its bad names are those that rewriting did not empty.
     pub readers: ReaderTotals,
+    /// The datapoints that were dropped on purpose: rewriting emptied their names.
+    pub emptied: u64,
     /// The connections that are open now.
     pub connections: u64,
     /// The connections that were refused, since the receiver had no room for more.
@@ -28,6 +30,7 @@ impl ReceiverCounts {
     {
         ReceiverCounts {
             readers: ReaderTotals::zero(),
+            emptied: 0,
             connections: 0,
             refused: 0,
         }
@@ -39,6 +42,7 @@ impl ReceiverCounts {
     {
         ReceiverCounts {
             readers: earlier.readers.with(self.readers),
+            emptied: earlier.emptied.saturating_add(self.emptied),
             connections: self.connections,
             refused: earlier.refused.saturating_add(self.refused),
         }
@@ -55,6 +59,7 @@ impl ReceiverCounts {
             faults.bad_pickles,
             faults.bad_rows,
             faults.bad_names,
+            self.emptied,
             self.connections,
             self.refused,
         ]
@@ -74,8 +79,9 @@ impl ReceiverCounts {
                     bad_names: numbers[4],
                 },
             },
-            connections: numbers[5],
-            refused: numbers[6],
+            emptied: numbers[5],
+            connections: numbers[6],
+            refused: numbers[7],
         }
     }
 }
@@ -91,6 +97,7 @@ impl NotedCounts {
     pub(crate) fn new() -> NotedCounts {
         NotedCounts {
             numbers: [
+                AtomicU64::new(0),
                 AtomicU64::new(0),
                 AtomicU64::new(0),
                 AtomicU64::new(0),

@@ -32,7 +32,7 @@ pub struct ReceiverNotes {
 pub enum ReceiverState {
     /// It receives.
     Open,
-    /// It takes no connections now: the system has no more descriptors or memory. Those that wait are taken later.
+    /// It takes no connections, or no datagrams, now: the system refuses them. Those that wait are taken later.
     Paused { why: Why },
     /// It has failed, and receives nothing any more.
     Failed { why: Why },
@@ -72,7 +72,7 @@ impl ReceiverNotes {
         self.is_paused.store(false, Ordering::SeqCst);
     }
 
-    /// It cannot take connections now.
+    /// It cannot take connections or datagrams now.
     pub fn note_paused(&self, why: Why) {
         self.pause.store(why.code(), Ordering::SeqCst);
         self.is_paused.store(true, Ordering::SeqCst);

@@ -29,7 +29,7 @@ use crate::turn_report::TurnReport;
 use dest_writer::Counting;
 use line_text::Moment;
 use queue_records::{Door, MOST_RECEIVERS, READERS_EACH};
-use reader_core::{Reader, ReaderCounts, ReaderKind};
+use reader_core::{Reader, ReaderKind, ReaderTotals};
 use relay_base::NoMemory;
 use router::Plan;
 use slab::Slab;
@@ -351,13 +351,13 @@ impl<S: Read + Drop> ReadLoop<S> {
         }
     }
 
-    /// What was wrong with what the reader of a token was fed.
-    pub fn counts_of(&self, token: Token) -> ReaderCounts
+    /// What the reader of a token has counted.
+    pub fn totals_at(&self, token: Token) -> ReaderTotals
         requires within { token.0 < MOST_CONNECTIONS }
         ensures { (reader : ReaderModel) → slice_get self.now.readers token.0 ≡ Some reader
-            → result ≡ reader.totals.faults }
+            → result ≡ reader.totals }
     {
-        self.readers[token.0].counts()
+        self.readers[token.0].totals()
     }
 
     /// The room for reads. It begins with the bytes of the last read that gave some.

@@ -4,6 +4,7 @@ pub mod Value
 pub mod Table
 pub mod Stack
 pub mod Pickle
+pub mod Unread
 pub mod UsualRow
 pub mod Items
 pub mod Views

@@ -35,6 +35,7 @@ mod row_point;
 mod sharing;
 mod stack;
 mod table;
+mod unread;
 mod usual_row;
 mod value;
 
@@ -44,4 +45,5 @@ pub use frames::FoundFrames;
 pub use loading::load;
 pub use reader::{FrameEnd, PickleReader};
 pub use relay_base::NoMemory;
+pub use unread::{Unread, unread_part};
 pub use value::{Row, Scalar};

@@ -1,4 +1,5 @@
 pub mod Accepted
+pub mod BadInput
 pub mod Datagrams
 pub mod Record
 pub mod Turns

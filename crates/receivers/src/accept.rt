@@ -41,7 +41,8 @@ pub trait Accept {
         false
     }
 
-    /// Takes the next connection, and watches it under the token. Without a token it is closed.
+    /// Takes the next connection, and watches it under the token. Without a token it is closed, unless a connection gives way
+    /// to it.
     fn accept(&mut self, token: Option<Token>) -> AcceptOutcome<Self::Stream>;
 
     /// Takes over the connection of a token, which the receiver gives up behind these bytes: those of its unfinished line or
@@ -52,9 +53,12 @@ pub trait Accept {
     /// Hands on, behind these, the connections that were handed over and that the receiver did not take.
     fn hand_over_others(&mut self) {}
 
-    /// Takes note of what the receiver has counted since it began. Called ten times a second, or once
-    /// a turn where turns are longer, and when the receiver ends.
-    fn note_totals(&mut self, totals: ReadTotals);
+    /// Takes note of what the receiver has counted since it began, and how many names its plan has emptied. Called ten times a
+    /// second, or once a turn where turns are longer, and when the receiver ends.
+    fn note_totals(&mut self, totals: ReadTotals, emptied: u64);
+
+    /// Takes note that the connection of a token was served, and whether its reader accepted datapoints.
+    fn note_served(&mut self, token: Token, has_datapoints: bool);
 
     /// Takes note that the connection of a token sent bad input: what its reader had counted before and has counted now.
     /// The buffer begins with the last piece that the connection sent.

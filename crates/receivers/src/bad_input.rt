@@ -1,8 +1,10 @@
 //! Examples of bad input.
 
+use crate::bad_pickle::Frames;
+use crate::progress::Progress;
 use line_text::{LineFault, Moment, Point};
-use log_lines::BadInput;
-use reader_core::ReaderCounts;
+use log_lines::{BadInput, BadPickle};
+use reader_core::{ReaderCounts, ReaderKind};
 use std::alloc::Global;
 
 /// Whether more was bad than before.
@@ -13,19 +15,20 @@ pub(crate) fn has_more(before: ReaderCounts, now: ReaderCounts) -> bool {
         || now.bad_names != before.bad_names
 }
 
-/// What was wrong with input that raised the counts from these to those, of which this is the text, if that can be said. The
-/// text of pickles is not looked at.
+/// What was wrong with input that raised the counts from these to those, if that can be said. This is the last of it.
 pub(crate) fn wrong_with(
     alloc: Global,
     before: ReaderCounts,
     now: ReaderCounts,
-    lines: Lines<'_>,
+    last: LastInput<'_>,
 ) -> Option<BadInput> {
     if now.bad_lines != before.bad_lines {
-        return lines.first_wrong(alloc);
+        return last.first_bad_line(alloc);
     }
     if now.bad_pickles != before.bad_pickles {
-        return Some(BadInput::Pickle);
+        return Some(BadInput::Pickle {
+            why: last.first_bad_pickle(alloc),
+        });
     }
     if now.bad_rows != before.bad_rows {
         return Some(BadInput::Row);
@@ -34,6 +37,42 @@ pub(crate) fn wrong_with(
         Some(BadInput::NewName)
     } else {
         None
+    }
+}
+
+/// The last piece of a connection, or a datagram.
+#[derive(Clone, Copy)]
+pub(crate) enum LastInput<'t> {
+    Lines(Lines<'t>),
+    Frames(Frames<'t>),
+}
+
+impl<'t> LastInput<'t> {
+    /// The last piece of a connection to a reader of this kind, which was there before.
+    pub(crate) fn of_piece(kind: ReaderKind, piece: &'t [u8], before: Progress) -> LastInput<'t> {
+        match kind {
+            ReaderKind::Pickle => LastInput::Frames(Frames {
+                begun: before.begun_frame(),
+                text: piece,
+            }),
+            _ => LastInput::Lines(Lines::of_piece(piece, before.is_within())),
+        }
+    }
+
+    /// What is wrong with its first line that is bad.
+    fn first_bad_line(self, alloc: Global) -> Option<BadInput> {
+        match self {
+            LastInput::Lines(lines) => lines.first_wrong(alloc),
+            LastInput::Frames(_) => None,
+        }
+    }
+
+    /// Why its first pickle that cannot be read cannot.
+    fn first_bad_pickle(self, alloc: Global) -> BadPickle {
+        match self {
+            LastInput::Lines(_) => BadPickle::Unknown,
+            LastInput::Frames(frames) => frames.first_wrong(alloc),
+        }
     }
 }
 
@@ -46,7 +85,7 @@ pub(crate) struct Lines<'t> {
 
 impl<'t> Lines<'t> {
     /// The whole lines of a piece of a connection. If it begins within a line, that line is left out.
-    pub(crate) fn of_piece(piece: &'t [u8], is_within: bool) -> Lines<'t> {
+    fn of_piece(piece: &'t [u8], is_within: bool) -> Lines<'t> {
         let begin = if is_within { after_break(piece) } else { 0 };
         let end = piece.len().saturating_sub(after_last_break(piece));
         let text = if begin < end { &piece[begin..end] } else { &[] };

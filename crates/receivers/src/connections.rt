@@ -2,24 +2,32 @@
 
 use crate::control::ReceiverControl;
 use crate::idle_times::IdleTimes;
+use crate::progress::Progress;
 use log_lines::{LossNotes, LossReason};
 use relay_base::NoMemory;
 use std::alloc::Global;
-use std::sync::Arc;
-use std::sync::atomic::{AtomicBool, AtomicUsize, Ordering};
+use std::sync::atomic::{AtomicBool, Ordering};
+use std::sync::{Arc, Mutex};
 
-/// What a listener and its connections share: since when each connection is idle, what was lost, and the control of their
+/// A piece that a connection sent.
+#[derive(Clone, Copy)]
+pub(crate) struct LastPiece {
+    /// How many bytes it has.
+    pub(crate) length: usize,
+    /// Where the connection was before.
+    pub(crate) before: Progress,
+}
+
+/// What a listener and its connections share: since when each connection has sent no datapoint, what was lost, and the control of their
 /// receiver.
 #[derive(Drop)]
 pub(crate) struct Connections {
     pub(crate) idle: IdleTimes,
     pub(crate) losses: LossNotes,
     pub(crate) control: Arc<ReceiverControl>,
-    // Whether an example of bad input is wanted; then how long the last piece is that a connection sent, and whether it begins
-    // within a line.
+    // Whether an example of bad input is wanted; then the last piece that a connection sent.
     wants_example: AtomicBool,
-    last_length: AtomicUsize,
-    is_last_within: AtomicBool,
+    last: Mutex<LastPiece>,
     // Whether the listener failed, so that its receiver ends.
     has_failed: AtomicBool,
 }
@@ -42,8 +50,10 @@ impl Connections {
             losses: LossNotes::new(),
             control,
             wants_example: AtomicBool::new(false),
-            last_length: AtomicUsize::new(0),
-            is_last_within: AtomicBool::new(false),
+            last: Mutex::new(LastPiece {
+                length: 0,
+                before: Progress::Overlong,
+            }),
             has_failed: AtomicBool::new(false),
         };
         Ok(Arc::new(alloc, connections)?)
@@ -65,18 +75,21 @@ impl Connections {
         self.wants_example.store(is_wanted, Ordering::SeqCst);
     }
 
-    /// A connection sent a piece of this length, and was within a line before. Nothing is noted if no example is wanted.
-    pub(crate) fn note_piece(&self, length: usize, is_within: bool) {
-        if self.wants_example.load(Ordering::SeqCst) {
-            self.last_length.store(length, Ordering::SeqCst);
-            self.is_last_within.store(is_within, Ordering::SeqCst);
+    /// A connection sent a piece of this length, and was there before. Nothing is noted if no example is wanted.
+    pub(crate) fn note_piece(&self, length: usize, before: Progress) {
+        if !self.wants_example.load(Ordering::SeqCst) {
+            return;
+        }
+        // The receiver's thread alone looks at it.
+        if let Some(mut last) = self.last.try_lock() {
+            *last = LastPiece { length, before };
         }
     }
 
-    /// How long the last piece was, and whether it began within a line.
-    pub(crate) fn last_piece(&self) -> (usize, bool) {
-        let length = self.last_length.load(Ordering::SeqCst);
-        (length, self.is_last_within.load(Ordering::SeqCst))
+    /// The last piece that a connection sent.
+    pub(crate) fn last_piece(&self) -> Option<LastPiece> {
+        let last = self.last.try_lock()?;
+        Some(*last)
     }
 
     /// Whether the receiver ends, and closes all connections for that reason alone.

@@ -11,10 +11,11 @@ ghost use Rattle.receivers.specs.Record.{begun_log};
 
 use crate::bad_input::has_more;
 use crate::datagrams::Datagrams;
+use crate::input_counts::InputCounts;
 use line_text::Moment;
 use mio_loops::{InputLog, ReadTotals, Served, feed_piece, make_offers};
 use queue_records::{Door, MOST_RECEIVERS, READERS_EACH};
-use reader_core::{Reader, ReaderCounts, ReaderKind};
+use reader_core::{Reader, ReaderKind};
 use relay_base::NoMemory;
 use router::Plan;
 use std::alloc::Global;
@@ -96,9 +97,9 @@ impl DatagramLoop {
             Ok(count) => {
                 let (datagram, _) = buffer.split_at(count);
                 let log = &mut self.log;
-                let before = reader.counts();
+                let before = counts_of(reader, plan);
                 let fed = feed_piece(reader, number, plan, door, log, datagram, moment);
-                note_bad(socket, before, reader.counts(), datagram);
+                note_bad(socket, before, counts_of(reader, plan), datagram);
                 received_of(fed)
             }
             Err(error) => received_after(error.kind()),
@@ -123,15 +124,24 @@ impl DatagramLoop {
     }
 }
 
+/// What the reader has counted by now.
+fn counts_of(reader: &Reader, plan: &Plan) -> InputCounts {
+    InputCounts {
+        totals: reader.totals(),
+        emptied: plan.emptied(),
+    }
+}
+
 /// Tells the socket if a datagram had bad input: its reader had counted this before and counts that now.
 fn note_bad<A: Datagrams>(
     socket: &mut A,
-    before: ReaderCounts,
-    now: ReaderCounts,
+    before: InputCounts,
+    now: InputCounts,
     datagram: &[u8],
 ) {
-    if has_more(before, now) {
-        socket.note_bad(before, now, datagram);
+    let faults = now.faults_since(&before);
+    if has_more(before.totals.faults, faults) {
+        socket.note_bad(before.totals.faults, faults, datagram);
     }
 }
 

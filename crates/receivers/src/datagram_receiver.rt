@@ -60,8 +60,8 @@ pub fn receive_datagrams<R: Wait, A: Datagrams + Drop, D: Door + Drop, T: TimeSo
         times,
         stop,
     );
+    socket.note_totals(datagrams.totals(), plan.emptied());
     drop(plan);
-    socket.note_totals(datagrams.totals());
     let log = datagrams.close();
     ReceiverRecord { door, log, fault }
 }
@@ -84,7 +84,7 @@ fn take_turns<R: Wait, A: Datagrams, D: Door, T: TimeSource, F: StopFlag>(
     let mut is_more = false;
     let mut noting = NotingTimes::new();
     for _ in rt.forever() {
-        note_totals(socket, datagrams, &mut noting, times.millis());
+        note_totals(socket, datagrams, plan, &mut noting, times.millis());
         match take_turn(socket, datagrams, plan, door, times, is_more) {
             Ok(more) => is_more = more,
             Err(fault) => return Some(fault),
@@ -100,11 +100,12 @@ fn take_turns<R: Wait, A: Datagrams, D: Door, T: TimeSource, F: StopFlag>(
 fn note_totals<A: Datagrams>(
     socket: &mut A,
     datagrams: &DatagramLoop,
+    plan: &Plan,
     noting: &mut NotingTimes,
     millis: u64,
 ) {
     if noting.is_due(millis) {
-        socket.note_totals(datagrams.totals());
+        socket.note_totals(datagrams.totals(), plan.emptied());
     }
 }
 

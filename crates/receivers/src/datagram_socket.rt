@@ -1,7 +1,7 @@
 //! A datagram socket of the network.
 ghost use Rattle.std.specs.Io.{ReadsAtMost};
 
-use crate::bad_input::{Lines, wrong_with};
+use crate::bad_input::{LastInput, Lines, wrong_with};
 use crate::control::{ReceiverControl, shared_control};
 use crate::datagram_loop::MOST_DATAGRAM;
 use crate::datagrams::Datagrams;
@@ -197,16 +197,17 @@ impl Datagrams for DatagramSocket {
         if !self.notes.wants_example() {
             return;
         }
-        let lines = Lines::of_datagram(datagram);
-        if let Some(input) = wrong_with(self.alloc, before, now, lines) {
+        let last = LastInput::Lines(Lines::of_datagram(datagram));
+        if let Some(input) = wrong_with(self.alloc, before, now, last) {
             let from = self.from.to_canonical();
             self.notes.note_example(&BadExample { input, from });
         }
     }
 
-    fn note_totals(&mut self, totals: ReadTotals) {
+    fn note_totals(&mut self, totals: ReadTotals, emptied: u64) {
         self.look_up_drops();
-        self.notes.note_totals(totals, self.losses.counts());
+        self.notes
+            .note_totals(totals, emptied, self.losses.counts());
     }
 
     fn note_fault(&mut self, fault: ReadinessFault) {

@@ -18,9 +18,9 @@ pub trait Datagrams {
     fn receive(&mut self, buffer: &mut [u8]) -> io::Result<usize>
         ensures bound { ReadsAtMost result buffer.new };
 
-    /// Takes note of what the receiver has counted since it began. Called ten times a second, or once
-    /// a turn where turns are longer, and when the receiver ends.
-    fn note_totals(&mut self, totals: ReadTotals);
+    /// Takes note of what the receiver has counted since it began, and how many names its plan has emptied. Called ten times a
+    /// second, or once a turn where turns are longer, and when the receiver ends.
+    fn note_totals(&mut self, totals: ReadTotals, emptied: u64);
 
     /// Takes note that the datagram that was taken last, with these bytes, held bad input: what the reader had counted before
     /// and has counted now.

@@ -10,14 +10,14 @@ use std::sync::atomic::{AtomicBool, Ordering};
 use std::sync::{Arc, Mutex};
 
 /// A connection that a receiver hands over: its socket, the address of its producer, the bytes that whoever reads on is fed
-/// first, its place, if places are limited, and the milliseconds at which it sent its last whole line or frame, or was taken.
+/// first, its place, if places are limited, and the milliseconds at which its last datapoint was accepted, or it was taken.
 #[derive(Drop)]
 pub struct HandedStream {
     pub(crate) stream: TcpStream,
     pub(crate) peer: IpAddr,
     pub(crate) first: Vec<u8>,
     pub(crate) place: Option<Place>,
-    pub(crate) last_unit: u64,
+    pub(crate) last_datapoint: u64,
 }
 
 /// Where a receiver puts the connections that it hands over, for the thread that stopped it. A receiver whose run is not the

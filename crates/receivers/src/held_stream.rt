@@ -32,8 +32,9 @@ enum LastRead {
     Failed(LossReason),
 }
 
-/// A connection of a listener of the network. A read that would have to wait fails with `TimedOut` if the connection has sent
-/// no whole line or frame for longer than the listener permits. A read of a long word fails with `OutOfMemory` while memory is
+/// A connection of a listener of the network. A read that would have to wait fails with `TimedOut` if no datapoint of the
+/// connection was accepted for longer than the listener permits; and so does each read once what it sent after that time has
+/// none, or once it gives way to another. A read of a long word fails with `OutOfMemory` while memory is
 /// short. Once its receiver closes, a read half-closes the connection first, so that the producer sees an end. One that was taken
 /// later is half-closed once all ports are shut: a producer that comes again at once does not come a third time, and finds no
 /// port that is just being shut.
@@ -68,7 +69,7 @@ impl HeldStream {
     ) -> HeldStream
         ensures { result.stream ≡ stream }
     {
-        connections.idle.note_unit(token);
+        connections.idle.note_taken(token);
         let is_early = !connections.control.is_closing();
         connections.control.note_held(is_early);
         HeldStream {
@@ -93,11 +94,9 @@ impl HeldStream {
         }
         self.last = LastRead::Bytes;
         self.connections.control.note_input();
-        let is_within = self.progress.is_within();
-        self.connections.note_piece(piece.len(), is_within);
-        if self.progress.note_piece(piece) {
-            self.connections.idle.note_unit(self.token);
-        }
+        self.connections.note_piece(piece.len(), self.progress);
+        self.connections.idle.note_bytes(self.token);
+        self.progress.note_piece(piece);
         if self.long_words.refuse(self.alloc, piece) {
             self.last = LastRead::Failed(LossReason::MemoryShort);
             return Err(io::Error::from(ErrorKind::OutOfMemory));
@@ -108,9 +107,8 @@ impl HeldStream {
     /// Notes the error of a read, and returns what the receiver is told.
     fn note_error(&mut self, error: io::Error) -> io::Error {
         match error.kind() {
-            ErrorKind::WouldBlock if self.connections.idle.is_over(self.token) => {
-                self.last = LastRead::Failed(LossReason::Idle);
-                io::Error::from(ErrorKind::TimedOut)
+            ErrorKind::WouldBlock if self.connections.idle.is_silent(self.token) => {
+                self.note_idle()
             }
             ErrorKind::WouldBlock | ErrorKind::Interrupted => {
                 self.last = LastRead::Nothing;
@@ -121,6 +119,12 @@ impl HeldStream {
                 error
             }
         }
+    }
+
+    /// The connection is closed as idle. Returns what the receiver is told.
+    fn note_idle(&mut self) -> io::Error {
+        self.last = LastRead::Failed(LossReason::Idle);
+        io::Error::from(ErrorKind::TimedOut)
     }
 
     /// Half-closes the connection, if that is due and was not done.
@@ -152,7 +156,7 @@ impl HeldStream {
             alloc,
             place,
         } = self;
-        let last_unit = connections.idle.last_of(token);
+        let last_datapoint = connections.idle.last_of(token);
         connections.idle.note_left(token);
         connections.control.note_left(is_early);
         let (unread, stream) = stream.into_parts();
@@ -166,7 +170,7 @@ impl HeldStream {
             peer,
             first,
             place,
-            last_unit,
+            last_datapoint,
         })
     }
 }
@@ -201,6 +205,9 @@ impl Read for HeldStream {
         ensures bound { ReadsAtMost result buf.new }
     {
         self.half_close_if_due();
+        if self.connections.idle.is_over(self.token) {
+            return Err(self.note_idle());
+        }
         match self.stream.read(buf) {
             Ok(count) => {
                 self.note_piece(&buf[..count])?;

@@ -6,6 +6,7 @@
 
 mod accept;
 mod bad_input;
+mod bad_pickle;
 mod closing;
 mod connection_room;
 mod connections;
@@ -18,6 +19,7 @@ mod handed_stream;
 mod handing;
 mod held_stream;
 mod idle_times;
+mod input_counts;
 mod long_words;
 mod noting_times;
 mod optional_notes;

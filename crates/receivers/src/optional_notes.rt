@@ -1,8 +1,10 @@
 //! The notes on a listener or a socket.
 
 ghost use Rattle.std.specs.Prelude.{◌≡◌};
+ghost use Rattle.receivers.specs.BadInput.{without_emptied};
 
 use crate::accept::AcceptOutcome;
+use crate::input_counts::without_emptied;
 use crate::refusal::is_final;
 use log_lines::{BadExample, LossCounts, ReceiverCounts, ReceiverNotes, Why};
 use mio_loops::{ReadTotals, ReadinessFault};
@@ -93,24 +95,26 @@ impl OptionalNotes {
         self.taken = self.taken.saturating_add(1);
     }
 
-    /// The receiver has counted this, and lost or closed this.
-    pub(crate) fn note_totals(&self, totals: ReadTotals, losses: LossCounts) {
+    /// The receiver has counted this, its plan has emptied so many names, and it has lost or closed this.
+    pub(crate) fn note_totals(&self, totals: ReadTotals, emptied: u64, losses: LossCounts) {
         if let Some(notes) = &self.notes {
             notes.note_losses(losses, self.taken);
-            notes.note_counts(self.counts_with(totals));
+            notes.note_counts(self.counts_with(totals, emptied));
         }
     }
 
-    /// What a receiver has counted that has these totals.
-    fn counts_with(&self, totals: ReadTotals) -> ReceiverCounts
+    /// What a receiver has counted that has these totals, and whose plan has emptied so many names.
+    fn counts_with(&self, totals: ReadTotals, emptied: u64) -> ReceiverCounts
         ensures { result ≡ record {
-          readers = totals.readers;
+          readers = without_emptied totals.readers emptied;
+          emptied = emptied;
           connections = totals.connections;
           refused = self.now.refused;
         } }
     {
         ReceiverCounts {
-            readers: totals.readers,
+            readers: without_emptied(totals.readers, emptied),
+            emptied,
             connections: totals.connections,
             refused: self.refused,
         }

@@ -13,6 +13,35 @@ const BETWEEN_FRAMES: Progress = Progress::Length {
     length: 0,
 };
 
+/// The first bytes of a frame.
+#[derive(Clone, Copy)]
+pub(crate) enum FrameHead {
+    /// None has come.
+    None,
+    /// The first two.
+    Known([u8; 2]),
+    /// The first two came one after the other.
+    Unknown,
+}
+
+impl FrameHead {
+    /// With the next bytes of the frame.
+    fn with(self, bytes: &[u8]) -> FrameHead {
+        match (self, bytes) {
+            (FrameHead::None, [first, second, ..]) => FrameHead::Known([*first, *second]),
+            (FrameHead::None, _) => FrameHead::Unknown,
+            (head, _) => head,
+        }
+    }
+}
+
+/// A frame that has begun: how many bytes it lacks, and how it begins.
+#[derive(Clone, Copy)]
+pub(crate) struct BegunFrame {
+    pub(crate) lacks: usize,
+    pub(crate) head: FrameHead,
+}
+
 /// How far a connection is within a line or a frame. It follows the ends of lines, or the lengths of frames, as a reader of
 /// the connection does, and looks at no other byte.
 #[derive(Clone, Copy)]
@@ -21,8 +50,8 @@ pub(crate) enum Progress {
     Line { held: usize },
     /// Of frames: how many bytes of a length have come, and the number that they are.
     Length { known: u8, length: usize },
-    /// Of frames: how many bytes a frame lacks, at least one.
-    Frame { lacks: usize },
+    /// Of frames: within one, which lacks at least one byte.
+    Frame(BegunFrame),
     /// A line or a frame is too long: the readers read nothing more.
     Overlong,
 }
@@ -41,7 +70,7 @@ impl Progress {
         match self {
             Progress::Line { held } => held > 0,
             Progress::Length { known, .. } => known > 0,
-            Progress::Frame { .. } => true,
+            Progress::Frame(_) => true,
             Progress::Overlong => false,
         }
     }
@@ -51,25 +80,34 @@ impl Progress {
         matches!(self, Progress::Overlong)
     }
 
-    /// The connection sent a piece. Returns whether a line or a frame ended.
-    pub(crate) fn note_piece(&mut self, piece: &[u8]) -> bool {
+    /// The frame that has begun; one that lacks nothing if none has, and one without an end if that is not known.
+    pub(crate) fn begun_frame(self) -> BegunFrame {
+        let lacks = match self {
+            Progress::Frame(begun) => return begun,
+            Progress::Length { known: 0, .. } => 0,
+            _ => usize::MAX,
+        };
+        BegunFrame {
+            lacks,
+            head: FrameHead::Unknown,
+        }
+    }
+
+    /// The connection sent a piece.
+    pub(crate) fn note_piece(&mut self, piece: &[u8]) {
         if let Progress::Line { held } = *self {
-            let (next, is_ended) = after_lines(held, piece);
-            *self = next;
-            return is_ended;
+            *self = after_lines(held, piece);
+            return;
         }
         let mut rest = piece;
-        let mut is_ended = false;
         for _ in 0..piece.len() {
             if rest.is_empty() {
                 break;
             }
             let (next, taken) = after_part(*self, rest);
-            is_ended = is_ended || !next.is_within();
             *self = next;
             rest = &rest[taken.min(rest.len())..];
         }
-        is_ended
     }
 }
 
@@ -77,9 +115,10 @@ impl Progress {
 /// one frame, and how many these are, at least one.
 fn after_part(progress: Progress, bytes: &[u8]) -> (Progress, usize) {
     match progress {
-        Progress::Frame { lacks } => {
+        Progress::Frame(BegunFrame { lacks, head }) => {
             let taken = lacks.min(bytes.len());
-            (within_frame(lacks.saturating_sub(taken)), taken.max(1))
+            let lacks = lacks.saturating_sub(taken);
+            (within_frame(lacks, head.with(bytes)), taken.max(1))
         }
         Progress::Length { known, length } => {
             let byte = bytes.first().copied().unwrap_or(0);
@@ -90,12 +129,12 @@ fn after_part(progress: Progress, bytes: &[u8]) -> (Progress, usize) {
     }
 }
 
-/// Within a frame that lacks this many bytes; behind it if it lacks none.
-fn within_frame(lacks: usize) -> Progress {
+/// Within a frame that lacks this many bytes and begins with these; behind it if it lacks none.
+fn within_frame(lacks: usize, head: FrameHead) -> Progress {
     if lacks == 0 {
         BETWEEN_FRAMES
     } else {
-        Progress::Frame { lacks }
+        Progress::Frame(BegunFrame { lacks, head })
     }
 }
 
@@ -106,22 +145,21 @@ fn within_length(known: u8, length: usize) -> Progress {
     } else if length > LONGEST_FRAME {
         Progress::Overlong
     } else {
-        within_frame(length)
+        within_frame(length, FrameHead::None)
     }
 }
 
-/// Where a connection of lines is that had sent this many bytes since the last newline and then sent a piece, and whether
-/// the piece ends a line.
-fn after_lines(held: usize, piece: &[u8]) -> (Progress, bool) {
+/// Where a connection of lines is that had sent this many bytes since the last newline and then sent a piece.
+fn after_lines(held: usize, piece: &[u8]) -> Progress {
     let all = held.saturating_add(piece.len());
     let Some(after) = piece.iter().rev().position(|byte| *byte == b'\n') else {
-        return (within_line(all), false);
+        return within_line(all);
     };
     // Only the line that was begun before the piece can be longer than a line, and only if both together are.
     if all > LONGEST_LINE && is_first_overlong(held, piece) {
-        return (Progress::Overlong, true);
+        return Progress::Overlong;
     }
-    (within_line(after), true)
+    within_line(after)
 }
 
 /// Within a line of which this many bytes have come.

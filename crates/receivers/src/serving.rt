@@ -5,15 +5,15 @@ ghost use Rattle.receivers.specs.Turns.{TurnsProgress};
 
 use crate::accept::Accept;
 use crate::bad_input::has_more;
+use crate::input_counts::InputCounts;
 use line_text::Moment;
 use mio_loops::{MOST_CONNECTIONS, ReadLoop, StopFlag, Token};
 use queue_records::Door;
-use reader_core::ReaderCounts;
 use router::Plan;
 use std::io::Read;
 
 /// Serves the connections that are marked or are in the again list, each once, in the order of the tokens, all at a moment,
-/// and tells the listener which of them sent bad input. If the stop flag is set before a connection's turn, the connection is
+/// and tells the listener which of them sent datapoints or bad input. If the stop flag is set before a connection's turn, the connection is
 /// not served: it is in the again list then.
 pub(crate) fn serve_until<S: Read + Drop, A: Accept, D: Door, F: StopFlag>(
     listener: &mut A,
@@ -70,22 +70,33 @@ fn serve_or_list<S: Read + Drop, A: Accept, D: Door, F: StopFlag>(
         reads.list_again(token);
         return;
     }
-    let before = reads.counts_of(token);
+    let before = counts_at(reads, token, plan);
     let _served = reads.serve_one(token, plan, door, moment);
-    note_bad(listener, reads, token, before);
+    note_served(listener, reads, token, before, counts_at(reads, token, plan));
 }
 
-/// Tells the listener if the connection of a token sent bad input since its reader had counted this.
-fn note_bad<S: Read + Drop, A: Accept>(
+/// What the reader of a token has counted by now.
+fn counts_at<S: Read + Drop>(reads: &ReadLoop<S>, token: Token, plan: &Plan) -> InputCounts
+    requires within { token.0 < MOST_CONNECTIONS }
+{
+    InputCounts {
+        totals: reads.totals_at(token),
+        emptied: plan.emptied(),
+    }
+}
+
+/// Tells the listener whether the connection of a token, which was served, sent datapoints and bad input: its reader had
+/// counted this before and counts that now.
+fn note_served<S: Read + Drop, A: Accept>(
     listener: &mut A,
     reads: &ReadLoop<S>,
     token: Token,
-    before: ReaderCounts,
-)
-    requires within { token.0 < MOST_CONNECTIONS }
-{
-    let now = reads.counts_of(token);
-    if has_more(before, now) {
-        listener.note_bad(token, before, now, reads.buffer());
+    before: InputCounts,
+    now: InputCounts,
+) {
+    listener.note_served(token, now.has_datapoints_since(&before));
+    let faults = now.faults_since(&before);
+    if has_more(before.totals.faults, faults) {
+        listener.note_bad(token, before.totals.faults, faults, reads.buffer());
     }
 }

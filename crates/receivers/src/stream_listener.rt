@@ -4,7 +4,7 @@ ghost use Rattle.receivers.specs.Accepted.{IfTaken};
 ghost use Rattle.receivers.specs.declared.handed_stream.HandedStream.{HandedStream};
 
 use crate::accept::{Accept, AcceptOutcome};
-use crate::bad_input::{Lines, wrong_with};
+use crate::bad_input::{LastInput, wrong_with};
 use crate::connection_room::{ConnectionRoom, Place, place_in};
 use crate::connections::Connections;
 use crate::control::{ReceiverControl, shared_control};
@@ -67,6 +67,8 @@ pub struct StreamListener {
     handed: Option<Arc<HandedStreams>>,
     // The connections of an ended run that it takes first, the last one first.
     resumed: Vec<HandedStream>,
+    // A connection to which another one gives way: it is taken once there is room.
+    waiting: Option<HandedStream>,
 }
 
 /// What watches a listener and its connections.
@@ -160,6 +162,7 @@ impl StreamListener {
                 tokens: watch.tokens,
                 handed: None,
                 resumed: Vec::new(alloc),
+                waiting: None,
             }),
             Err(fault) => {
                 drop((listener, room));
@@ -174,8 +177,8 @@ impl StreamListener {
         self.notes = OptionalNotes::here(notes);
     }
 
-    /// From now on a connection that sent no whole line or frame for this number of seconds is closed, within a second after
-    /// that: a read of it fails. With 0, as before this call, none is.
+    /// From now on a connection that sent no datapoint for this number of seconds is closed, within a second after that: a read
+    /// of it fails. With 0, as before this call, none is.
     pub fn set_idle(&mut self, seconds: u64) {
         self.connections.idle.set_limit(seconds);
     }
@@ -210,14 +213,40 @@ impl StreamListener {
             peer,
             first,
             place,
-            last_unit,
+            last_datapoint,
         } = handed;
         self.note_peer(token, peer);
         let watched = self.watch(stream, first, token, place);
         if let Some(token) = token {
-            self.connections.idle.note_unit_at(token, last_unit);
+            self.connections.idle.note_taken_at(token, last_datapoint);
         }
         watched
+    }
+
+    /// Takes a new connection, and watches it under the token. Without a token it waits if another one gives way to it, and
+    /// otherwise it is closed.
+    fn admit(
+        &mut self,
+        token: Option<Token>,
+        stream: HandedStream,
+    ) -> AcceptOutcome<HeldStream> {
+        if token.is_some() {
+            self.notes.note_taken();
+        } else if self.connections.idle.give_way() {
+            self.waiting = Some(stream);
+            return AcceptOutcome::Later;
+        } else {
+            self.notes.note_refused();
+        }
+        let HandedStream {
+            stream,
+            peer,
+            first,
+            place,
+            last_datapoint: _,
+        } = stream;
+        self.note_peer(token, peer);
+        self.watch(stream, first, token, place)
     }
 
     /// Watches a connection under a token. One that has none, or that the system does not watch, is dropped.
@@ -317,13 +346,14 @@ impl Accept for StreamListener {
             return Ok(&ONLY_LISTENER);
         }
         let is_stepping = self.take_step();
+        let is_urgent = is_stepping || self.connections.idle.has_over();
         let control = &self.connections.control;
-        if !is_stepping && !self.connections.idle.is_look_due() {
+        if !is_urgent && !self.connections.idle.is_look_due() {
             return wait_noted(&mut self.readiness, &mut self.notes, control, millis);
         }
         // A step does not wait: it returns the tokens of all connections, each of which half-closes itself when it is read,
-        // and that of the listener.
-        let millis = if is_stepping { 0 } else { millis };
+        // and that of the listener. Nor does a connection that is to be closed, since another may wait for its place.
+        let millis = if is_urgent { 0 } else { millis };
         let ready = wait_noted(&mut self.readiness, &mut self.notes, control, millis)?;
         list(ready, &mut self.tokens);
         if is_stepping {
@@ -342,6 +372,9 @@ impl Accept for StreamListener {
         if self.has_handed() {
             return self.resume(token);
         }
+        if let Some(stream) = self.waiting.take() {
+            return self.admit(token, stream);
+        }
         let Ok(place) = place_in(&self.room) else {
             return self.note_refusal(&no_descriptor());
         };
@@ -351,13 +384,14 @@ impl Accept for StreamListener {
         match listener.accept() {
             Ok((stream, peer)) => {
                 self.notes.note_open();
-                self.note_peer(token, peer.ip());
-                if token.is_none() {
-                    self.notes.note_refused();
-                } else {
-                    self.notes.note_taken();
-                }
-                self.watch(stream, Vec::new(self.alloc), token, place)
+                let stream = HandedStream {
+                    stream,
+                    peer: peer.ip(),
+                    first: Vec::new(self.alloc),
+                    place,
+                    last_datapoint: self.connections.idle.now(),
+                };
+                self.admit(token, stream)
             }
             Err(error) => self.note_refusal(&error),
         }
@@ -384,26 +418,35 @@ impl Accept for StreamListener {
                 handed.put(stream);
             }
         }
+        if let (Some(stream), Some(handed)) = (self.waiting.take(), &self.handed) {
+            handed.put(stream);
+        }
     }
 
-    fn note_totals(&mut self, totals: ReadTotals) {
+    fn note_totals(&mut self, totals: ReadTotals, emptied: u64) {
         self.connections.want_example(self.notes.wants_example());
         // Those that were handed over and not taken yet are open too.
         let mut totals = totals;
         totals.connections = totals.connections.saturating_add(self.resumed.len() as u64);
         self.notes
-            .note_totals(totals, self.connections.losses.counts());
+            .note_totals(totals, emptied, self.connections.losses.counts());
+    }
+
+    fn note_served(&mut self, token: Token, has_datapoints: bool) {
+        self.connections.idle.note_served(token, has_datapoints);
     }
 
     fn note_bad(&mut self, token: Token, before: ReaderCounts, now: ReaderCounts, buffer: &[u8]) {
         if !self.notes.wants_example() {
             return;
         }
-        let (length, is_within) = self.connections.last_piece();
-        let piece = &buffer[..length.min(buffer.len())];
-        let lines = Lines::of_piece(piece, is_within);
+        let Some(last) = self.connections.last_piece() else {
+            return;
+        };
+        let piece = &buffer[..last.length.min(buffer.len())];
+        let input = LastInput::of_piece(self.kind, piece, last.before);
         if let (Some(input), Some(from)) = (
-            wrong_with(self.alloc, before, now, lines),
+            wrong_with(self.alloc, before, now, input),
             self.peers.get(token.0),
         ) {
             self.notes.note_example(&BadExample { input, from: *from });

@@ -68,8 +68,8 @@ pub fn receive_streams<R: Wait, A: Accept + Drop, D: Door + Drop, T: TimeSource,
         times,
         stop,
     );
+    listener.note_totals(reads.totals(), plan.emptied());
     drop(plan);
-    listener.note_totals(reads.totals());
     hand_over_if(fault.is_none(), &mut listener, &mut reads);
     ReceiverRecord {
         door,
@@ -96,7 +96,7 @@ fn take_turns<R: Wait, A: Accept, D: Door, T: TimeSource, F: StopFlag>(
     let mut backlog = Backlog::Empty;
     let mut noting = NotingTimes::new();
     for _ in rt.forever() {
-        begin_turn(listener, reads, &mut noting, times.millis());
+        begin_turn(listener, reads, plan, &mut noting, times.millis());
         match take_turn(listener, reads, plan, door, times, stop, backlog) {
             Ok(left) => backlog = left,
             Err(fault) => return Some(fault),
@@ -112,12 +112,13 @@ fn take_turns<R: Wait, A: Accept, D: Door, T: TimeSource, F: StopFlag>(
 fn begin_turn<A: Accept>(
     listener: &mut A,
     reads: &ReadLoop<A::Stream>,
+    plan: &Plan,
     noting: &mut NotingTimes,
     millis: u64,
 ) {
     listener.begin_turn(millis);
     if noting.is_due(millis) {
-        listener.note_totals(reads.totals());
+        listener.note_totals(reads.totals(), plan.emptied());
     }
 }
 

@@ -68,7 +68,7 @@ impl RunOptions {
         options
     }
 
-    /// A connection that has sent no whole line or frame for this many seconds is closed; with 0 none is.
+    /// A connection that has sent no datapoint for this many seconds is closed; with 0 none is.
     pub fn with_idle(self, seconds: u64) -> RunOptions
         ensures { result ≡ record self { idle = seconds } }
     {

@@ -37,8 +37,8 @@ impl<'s, A: Datagrams> Datagrams for ReadyDatagrams<'s, A> {
         self.socket.receive(buffer)
     }
 
-    fn note_totals(&mut self, totals: ReadTotals) {
-        self.socket.note_totals(totals);
+    fn note_totals(&mut self, totals: ReadTotals, emptied: u64) {
+        self.socket.note_totals(totals, emptied);
     }
 
     fn note_bad(&mut self, before: ReaderCounts, now: ReaderCounts, datagram: &[u8]) {

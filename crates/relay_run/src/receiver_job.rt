@@ -93,7 +93,7 @@ impl Inlet {
         }
     }
 
-    /// From now on a connection that has sent no whole line or frame for this number of seconds is closed; with 0 none is.
+    /// From now on a connection that has sent no datapoint for this number of seconds is closed; with 0 none is.
     pub(crate) fn set_idle(&mut self, seconds: u64) {
         match self {
             Inlet::Lines(listener, _) | Inlet::Pickles(listener) => listener.set_idle(seconds),

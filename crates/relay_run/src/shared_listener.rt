@@ -153,8 +153,12 @@ impl<'s, A: Accept> Accept for SharedListener<'s, A> {
         self.listener.hand_over_others();
     }
 
-    fn note_totals(&mut self, totals: ReadTotals) {
-        self.listener.note_totals(totals);
+    fn note_totals(&mut self, totals: ReadTotals, emptied: u64) {
+        self.listener.note_totals(totals, emptied);
+    }
+
+    fn note_served(&mut self, token: Token, has_datapoints: bool) {
+        self.listener.note_served(token, has_datapoints);
     }
 
     fn note_bad(&mut self, token: Token, before: ReaderCounts, now: ReaderCounts, buffer: &[u8]) {

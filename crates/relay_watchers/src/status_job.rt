@@ -89,6 +89,7 @@ impl<'x, B: Set> StatusWatch<'x, B> {
         if let Some(notes) = self.noted.notes.get(place) {
             let status = notes.status(counts.dropped, true);
             snapshot.is_up = status.is_up;
+            snapshot.is_starting = status.is_starting;
             snapshot.since = times.age(status.since);
             snapshot.changed_at = times.second_of(status.since);
             snapshot.last_error = status.last_error;
@@ -166,6 +167,7 @@ fn unseen_dest(dest: Dest, counts: Counts, size: u64, times: &ViewTimes) -> Dest
         dest,
         counts,
         is_up: false,
+        is_starting: true,
         since: times.millis / 1_000,
         rates: NO_RATES,
         last_error: None,

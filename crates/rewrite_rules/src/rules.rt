@@ -1,17 +1,18 @@
 //! The rewrite rules of a relay.
-ghost use Rattle.std.specs.Prelude.{◌≡◌, [], false, Ok, IfOk, IfErr, IsErrOf, IsTrue, is_none};
+ghost use Rattle.std.specs.Prelude.{◌≡◌, ℕ, List, [], false, Ok, IfOk, IfErr, IsErrOf, IsTrue, is_none};
 ghost use Rattle.line_text.specs.Name.{is_name};
 ghost use Rattle.patterns.specs.Replacement.{text_or};
 ghost use Rattle.rewrite_rules.specs.Rule.{text_after_all, none_match};
 ghost use Rattle.rewrite_rules.specs.File.{meanings_of, rewrite_rules_of};
 ghost use Rattle.rewrite_rules.specs.Faults.{IsFileFault};
-ghost use Rattle.rewrite_rules.specs.Name.{name_or, is_unchanged};
+ghost use Rattle.rewrite_rules.specs.Name.{IsNewName, is_unchanged};
 
 use crate::fault::{RewriteFault, RewriteReadFault};
 use crate::line::read_line;
 use crate::rule::Rule;
 use crate::sections::Sections;
 use line_text::{Name, NameFault};
+use relay_base::NoMemory;
 use std::alloc::{AllocError, Global};
 use std::marker::Model;
 
@@ -40,6 +41,10 @@ pub enum NewName {
     Unchanged,
     /// The name that the rules make of it.
     Changed(Name),
+    /// The rules leave nothing of it.
+    Emptied,
+    /// What the rules leave is not a metric name, and not empty.
+    Invalid,
 }
 
 impl RewriteRules {
@@ -94,26 +99,39 @@ impl RewriteRules {
         match self.rewrite(name)? {
             NewName::Unchanged => name_of(*self.rules.allocator(), name.text()),
             NewName::Changed(new) => Ok(new),
+            NewName::Emptied | NewName::Invalid => Err(RewriteFault::BadResult),
         }
     }
 
-    /// Like `apply`, for a caller that shares the name: it returns `Unchanged` if no rule matches, so that the caller
-    /// can keep its own.
+    /// Like `apply`, for a caller that shares the name, or wants to know what is wrong with the new one: it returns
+    /// `Unchanged` if no rule matches, so that the caller can keep its own.
     ///
     /// No text is built for a rule that does not match.
-    pub fn rewrite(&mut self, name: &Name) -> Result<NewName, RewriteFault>
-        ensures ok { IfOk result (λ new. (name_or name.now new ≡ text_after_all self.old name.now)
-            × IsTrue (is_name (text_after_all self.old name.now))) }
+    pub fn rewrite(&mut self, name: &Name) -> Result<NewName, NoMemory>
+        ensures new { IfOk result (IsNewName name.now (text_after_all self.old name.now)) }
         ensures unchanged { IfOk result (λ new. is_unchanged new ≡ none_match self.old name.now) }
-        ensures bad { IsErrOf result RewriteFault.BadResult
-            → is_name (text_after_all self.old name.now) ≡ false }
         ensures same { self.new ≡ self.old }
     {
         let alloc = *self.rules.allocator();
         match rewrite_text(alloc, &mut self.rules, name.text())? {
             None => Ok(NewName::Unchanged),
-            Some(text) => Ok(NewName::Changed(name_of(alloc, text.as_str())?)),
+            Some(text) => new_name(alloc, text.as_str()),
         }
+    }
+}
+
+/// The new name that a text is, which rules made of another.
+fn new_name(alloc: Global, text: &str) -> Result<NewName, NoMemory>
+    ensures new { IfOk result (λ new. (given : List ℕ) → IsNewName given text.now new) }
+    ensures changed { IfOk result (λ new. is_unchanged new ≡ false) }
+{
+    if text.is_empty() {
+        return Ok(NewName::Emptied);
+    }
+    match Name::read(alloc, text.as_bytes()) {
+        Ok(name) => Ok(NewName::Changed(name)),
+        Err(NameFault::BadName) => Ok(NewName::Invalid),
+        Err(NameFault::NoMemory) => Err(NoMemory),
     }
 }
 

@@ -17,6 +17,7 @@ module _ (rewrite : List RewriteRule) (routing : Routing) where
   right_copy name route entry named same right = rw named (record {
     sent = same.sent name ∙ right.sent;
     dests = same.dests ∙ right.dests;
+    emptied = same.emptied ∙ right.emptied;
   })
 
   pub right_kept : (before : List (List ℕ × Route)) (entry : List ℕ × Route) (after : List (List ℕ × Route))

@@ -38,6 +38,8 @@ pub struct Plan {
     names: NameTable<Route>,
     /// Behind it the routes of the most recent names, also of those for which the large table has no slot.
     recent: RecentRoutes,
+    /// How many datapoints were dropped because rewriting emptied their names.
+    emptied: u64,
 }
 
 impl Model for Plan {
@@ -91,6 +93,7 @@ impl Plan {
             destinations: settings.destinations().len(),
             names: NameTable::new(alloc),
             recent,
+            emptied: 0,
         })
     }
 
@@ -140,7 +143,10 @@ impl Plan {
         // No effect at run time: the proof reads the law.
         laws::route_stays_below();
         match self.names.find_again(point.name.text().as_bytes()) {
-            Some(entry) => entry.value.send(self.alloc, &entry.name, point, dests),
+            Some(entry) => {
+                let emptied = &mut self.emptied;
+                entry.value.send(self.alloc, &entry.name, point, dests, emptied)
+            }
             None => self.send_other(point, dests),
         }
     }
@@ -167,7 +173,7 @@ impl Plan {
             return match self.recent.newest() {
                 Some((key, route)) => {
                     keep_share(&mut self.names, key, route);
-                    route.send(self.alloc, &key.name, point, dests)
+                    route.send(self.alloc, &key.name, point, dests, &mut self.emptied)
                 }
                 None => unreachable!(),
             };
@@ -190,9 +196,15 @@ impl Plan {
         // No effect at run time: the proof reads the law.
         laws::route_stays_below();
         let route = Route::of(self.alloc, &mut self.rewrite, &mut self.routing, &key.name)?;
-        let sent = route.send(self.alloc, &key.name, point, dests)?;
+        let sent = route.send(self.alloc, &key.name, point, dests, &mut self.emptied)?;
         remember(&mut self.names, &mut self.recent, key, route);
         Ok(sent)
+    }
+
+    /// How many of the datapoints that it was given it dropped because rewriting left nothing of their names, at most
+    /// `u64::MAX`. These are dropped on purpose, and no fault of who sent them.
+    pub fn emptied(&self) -> u64 {
+        self.emptied
     }
 
     /// The number of routes that the plan holds for the names that it routed most recently, beside its large table of

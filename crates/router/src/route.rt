@@ -1,16 +1,18 @@
 //! What a plan makes of a metric name.
 
-ghost use Rattle.std.specs.Prelude.{◌≡◌, ℕ, List, [], ◌∷◌, Some, IfOk, IfSome, OnOk, option_map};
+ghost use Rattle.std.specs.Prelude.{◌≡◌, ◌+◌, ℕ, List, [], ◌∷◌, Some, false, IfOk, IfSome, OnOk, option_map, if◌then◌else◌};
 ghost use Rattle.std.specs.Arc.{arc_value};
+ghost use Rattle.rewrite_rules.specs.Name.{is_emptied};
+ghost use Rattle.rewrite_rules.specs.Rule.{text_after_all};
 ghost use Rattle.router.specs.Plan.{name_after, under_name};
-ghost use Rattle.router.specs.Route.{IsRouteOf, IsSameRoute, dests_of, dests_on, sent_name, sent_on};
+ghost use Rattle.router.specs.Route.{IsRouteOf, IsSameRoute, counted, dests_of, dests_on, is_emptied_name, is_emptied_on, sent_name, sent_on};
 ghost use Rattle.router.specs.Seen.{routing_seen};
 
 use crate::routing::Routing;
 use line_text::{Name, Point};
 use name_table::OwnedBytes;
 use relay_base::{DestId, NoMemory};
-use rewrite_rules::{NewName, RewriteFault, RewriteRules};
+use rewrite_rules::{NewName, RewriteRules};
 use std::alloc::Global;
 use std::mem::size_of;
 use std::sync::Arc;
@@ -46,8 +48,10 @@ pub(crate) enum SentName {
     AsReceived,
     /// Another name.
     Renamed(Arc<Name>),
-    /// No metric name: its datapoints are dropped.
-    Dropped,
+    /// Nothing: its datapoints are dropped on purpose.
+    Emptied,
+    /// No metric name, and not empty: its datapoints are dropped.
+    Invalid,
 }
 
 /// Destinations. A single one is held in place, so that it costs no read of other memory.
@@ -75,7 +79,7 @@ impl Route {
         match &sent {
             SentName::AsReceived => routing.route(name, &mut dests)?,
             SentName::Renamed(name) => routing.route(name, &mut dests)?,
-            SentName::Dropped => {}
+            SentName::Emptied | SentName::Invalid => {}
         }
         Route::new(alloc, sent, dests)
     }
@@ -85,6 +89,7 @@ impl Route {
         ensures sent { IfOk result (λ route. (received : List ℕ)
             → sent_on received route ≡ sent_name received sent) }
         ensures dests { IfOk result (λ route. dests_on route ≡ dests.items) }
+        ensures emptied { IfOk result (λ route. is_emptied_on route ≡ is_emptied_name sent) }
     {
         if let Some(dest) = only_dest(&sent, dests.as_slice()) {
             return Ok(Route::ToOne(dest));
@@ -105,18 +110,21 @@ impl Route {
     }
 
     /// A datapoint of a name, which has this route, as it is sent on, or `None` if it is dropped. Its destinations
-    /// replace what `dests` had.
+    /// replace what `dests` had. It is counted if rewriting emptied its name.
     pub(crate) fn send(
         &self,
         alloc: Global,
         name: &Arc<Name>,
         point: Point,
         dests: &mut Vec<DestId>,
+        emptied: &mut u64,
     ) -> Result<Option<Arc<Point>>, NoMemory>
         requires { point.name ≡ arc_value name.now }
         ensures point { IfOk result (λ sent. option_map (λ p. arc_value p) sent
             ≡ under_name point (sent_on (arc_value name.now) self.now)) }
         ensures dests { OnOk result (dests.new.items ≡ dests_on self.now) }
+        ensures emptied { OnOk result (emptied.new
+            ≡ (if is_emptied_on self.now then counted (emptied.old + 1) else emptied.old)) }
     {
         match self {
             Route::ToOne(dest) => {
@@ -130,7 +138,11 @@ impl Route {
                 let sent = match &other.sent {
                     SentName::AsReceived => with_shared_name(point, name)?,
                     SentName::Renamed(name) => with_name(point, name)?,
-                    SentName::Dropped => return Ok(None),
+                    SentName::Emptied => {
+                        *emptied = emptied.saturating_add(1);
+                        return Ok(None);
+                    }
+                    SentName::Invalid => return Ok(None),
                 };
                 Ok(Some(Arc::new(alloc, sent)?))
             }
@@ -152,7 +164,7 @@ impl SentName {
     fn owned_bytes(&self) -> usize {
         match self {
             SentName::Renamed(name) => name.text().len(),
-            SentName::AsReceived | SentName::Dropped => 0,
+            SentName::AsReceived | SentName::Emptied | SentName::Invalid => 0,
         }
     }
 
@@ -160,13 +172,16 @@ impl SentName {
     fn of(alloc: Global, rules: &mut RewriteRules, name: &Arc<Name>) -> Result<SentName, NoMemory>
         ensures name { IfOk result (λ sent. sent_name (arc_value name.now) sent
             ≡ name_after rules.old (arc_value name.now)) }
+        ensures emptied { IfOk result (λ sent. is_emptied_name sent
+            ≡ is_emptied (text_after_all rules.old (arc_value name.now))) }
         ensures same { rules.new ≡ rules.old }
     {
         match rules.rewrite(name) {
             Ok(NewName::Unchanged) => Ok(SentName::AsReceived),
             Ok(NewName::Changed(new)) => Ok(SentName::Renamed(Arc::new(alloc, new)?)),
-            Err(RewriteFault::BadResult) => Ok(SentName::Dropped),
-            Err(RewriteFault::NoMemory) => Err(NoMemory),
+            Ok(NewName::Emptied) => Ok(SentName::Emptied),
+            Ok(NewName::Invalid) => Ok(SentName::Invalid),
+            Err(fault) => Err(fault),
         }
     }
 }
@@ -198,14 +213,15 @@ impl RouteDests {
 /// The destination of a name that is sent as it was received, if it is the only one.
 fn only_dest(sent: &SentName, dests: &[DestId]) -> Option<DestId>
     ensures { IfSome result (λ dest. ((received : List ℕ)
-        → sent_name received sent.now ≡ Some received) × (dests.now ≡ dest ∷ [])) }
+        → sent_name received sent.now ≡ Some received) × (dests.now ≡ dest ∷ [])
+        × (is_emptied_name sent.now ≡ false)) }
 {
     match sent {
         SentName::AsReceived => match dests {
             [dest] => Some(*dest),
             _ => None,
         },
-        SentName::Renamed(_) | SentName::Dropped => None,
+        SentName::Renamed(_) | SentName::Emptied | SentName::Invalid => None,
     }
 }
 

@@ -49,6 +49,11 @@ impl AddressChoice {
         Some(address)
     }
 
+    /// Whether each address that is known was tried since the last connection, or since the round began.
+    pub(crate) fn are_all_tried(&self) -> bool {
+        self.untried().is_none()
+    }
+
     /// The last try was connected, so that the next round begins with its address.
     pub(crate) fn note_connected(&mut self) {
         self.connected = self.last;

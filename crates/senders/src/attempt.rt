@@ -19,6 +19,7 @@ const LOOK_AFTER_MS: u64 = 100;
 #[derive(Drop)]
 pub(crate) struct Attempt {
     stream: TcpStream,
+    address: SocketAddr,
     // The milliseconds at which it is given up, and at which it is looked at without a report of readiness.
     end_millis: u64,
     next_look_millis: u64,
@@ -57,11 +58,17 @@ impl Attempt {
             .map_err(|_| Why::NoReadiness)?;
         Ok(Attempt {
             stream,
+            address,
             end_millis: millis.saturating_add(LONGEST_TRY_MS),
             next_look_millis: millis.saturating_add(LOOK_AFTER_MS),
             is_ready: false,
             is_closed: false,
         })
+    }
+
+    /// The address that is tried.
+    pub(crate) fn address(&self) -> SocketAddr {
+        self.address
     }
 
     /// A wait reported that the stream is ready.

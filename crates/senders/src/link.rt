@@ -137,17 +137,22 @@ impl Link {
                     self.addresses.note_found(found);
                     self.begin(net, readiness, dest, millis, notes)
                 }
-                LookupAnswer::None | LookupAnswer::NotFound => failed(notes, Why::NotFound),
-            },
-            Stage::Connecting(attempt) => match attempt.go_on(millis) {
-                Progress::Connected(socket) => {
-                    self.enter(Stage::Connected);
-                    self.addresses.note_connected();
-                    return self.connection.open(socket);
+                LookupAnswer::None | LookupAnswer::NotFound => {
+                    self.fail(notes, Why::NotFound, None)
                 }
-                Progress::UnderWay(attempt) => Stage::Connecting(attempt),
-                Progress::Failed(why) => failed(notes, why),
             },
+            Stage::Connecting(attempt) => {
+                let address = attempt.address();
+                match attempt.go_on(millis) {
+                    Progress::Connected(socket) => {
+                        self.enter(Stage::Connected);
+                        self.addresses.note_connected();
+                        return self.connection.open(socket);
+                    }
+                    Progress::UnderWay(attempt) => Stage::Connecting(attempt),
+                    Progress::Failed(why) => self.fail(notes, why, Some(address)),
+                }
+            }
             stage => stage,
         };
         self.enter(stage);
@@ -245,15 +250,18 @@ impl Link {
         let address = SocketAddr::new(address, self.port);
         match Attempt::begin(net, readiness, dest, address, millis) {
             Ok(attempt) => Stage::Connecting(attempt),
-            Err(why) => failed(notes, why),
+            Err(why) => self.fail(notes, why, Some(address)),
         }
     }
-}
 
-/// A try has failed, which is noted, if events are. None is under way then.
-fn failed(notes: Option<&DestNotes>, why: Why) -> Stage {
-    if let Some(notes) = notes {
-        notes.note_failure(why);
+    /// A try has failed, at this address if one was tried, which is noted, if events are. None is under way then.
+    fn fail(&self, notes: Option<&DestNotes>, why: Why, address: Option<SocketAddr>) -> Stage {
+        if let Some(notes) = notes {
+            notes.note_failure(why, address);
+            if self.addresses.are_all_tried() {
+                notes.note_all_tried();
+            }
+        }
+        Stage::Idle
     }
-    Stage::Idle
 }

@@ -226,7 +226,8 @@ fn note_failed(links: &[Option<Link>], notes: &[DestNotes]) {
     for (link, notes) in links.iter().zip(notes) {
         if link.is_some() {
             notes.note_lost(Why::NoReadiness);
-            notes.note_failure(Why::NoReadiness);
+            notes.note_failure(Why::NoReadiness, None);
+            notes.note_all_tried();
         }
     }
 }

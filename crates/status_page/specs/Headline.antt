@@ -30,9 +30,9 @@ is_filling size d = nat_le (size / 10) d.counts.queued && nat_lt d.rates.written
 abbrev pub is_stuck : DestSnapshot → Bool
 is_stuck d = d.is_up && nat_le 3 d.stalled
 
--- it has no connection
+-- it has no connection, and all addresses of its host were tried
 abbrev pub is_away : DestSnapshot → Bool
-is_away d = not d.is_up
+is_away d = not d.is_up && not d.is_starting
 
 -- it lost its connection three times or more in the last minute
 abbrev pub is_flapping : DestSnapshot → Bool

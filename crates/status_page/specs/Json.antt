@@ -119,7 +119,8 @@ bad_json c =
 
 -- what a receiver has counted
 unfoldable pub received_json : ReceiverCounts → List ℕ
-received_json c = accepted_json c ++ (bad_json c ++ member (codes "refused") c.refused)
+received_json c =
+    accepted_json c ++ (bad_json c ++ (member (codes "emptied_names") c.emptied ++ member (codes "refused") c.refused))
 
 -- what it lost or closed, by the reason
 unfoldable pub losses_json : LossCounts → List ℕ

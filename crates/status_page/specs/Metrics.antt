@@ -94,6 +94,7 @@ receiver_value receiver.BadLines r = r.counts.readers.faults.bad_lines
 receiver_value receiver.BadPickles r = r.counts.readers.faults.bad_pickles
 receiver_value receiver.BadRows r = r.counts.readers.faults.bad_rows
 receiver_value receiver.BadNames r = r.counts.readers.faults.bad_names
+receiver_value receiver.EmptiedNames r = r.counts.emptied
 receiver_value (receiver.Lost why) r = count_of r.losses why
 
 -- a metric that has one number
@@ -218,7 +219,8 @@ acceptance_metrics receivers =
     ++ (receiver_family (codes "relayd_receiver_connections") (codes "The connections that are open now.") (codes "gauge") receiver.Connections receivers
     ++ (receiver_family (codes "relayd_receiver_accepted_connections_total") (codes "The connections that it has taken.") (codes "counter") receiver.Taken receivers
     ++ (receiver_family (codes "relayd_receiver_refused_connections_total") (codes "The connections that it refused.") (codes "counter") receiver.Refused receivers
-    ++ (receiver_family (codes "relayd_receiver_datapoints_total") (codes "The datapoints that it accepted.") (codes "counter") receiver.Datapoints receivers))))
+    ++ (receiver_family (codes "relayd_receiver_datapoints_total") (codes "The datapoints that it accepted.") (codes "counter") receiver.Datapoints receivers
+    ++ (receiver_family (codes "relayd_receiver_emptied_names_total") (codes "The accepted datapoints that rewriting dropped on purpose: it emptied their names.") (codes "counter") receiver.EmptiedNames receivers)))))
 
 -- what it could not use, by names that go with the next release
 unfoldable pub old_refusal_metrics : List ReceiverSnapshot → List ℕ

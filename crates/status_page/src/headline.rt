@@ -222,11 +222,11 @@ pub(crate) fn is_stuck(dest: &DestSnapshot) -> bool
     dest.is_up && LONG_STALL_SECONDS <= dest.stalled
 }
 
-/// Whether it has no connection.
+/// Whether it has no connection, and all addresses of its host were tried.
 pub(crate) fn is_away(dest: &DestSnapshot) -> bool
     ensures { result ≡ is_away dest.now }
 {
-    !dest.is_up
+    !dest.is_up && !dest.is_starting
 }
 
 /// Whether it loses its connection again and again.

@@ -97,6 +97,7 @@ fn push_received(text: &mut String, counts: &ReceiverCounts) -> Result<(), Alloc
 {
     push_accepted(text, counts)?;
     push_bad(text, counts)?;
+    push_member(text, "emptied_names", counts.emptied)?;
     push_member(text, "refused", counts.refused)
 }
 

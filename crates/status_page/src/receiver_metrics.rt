@@ -24,6 +24,7 @@ pub(crate) enum ReceiverMetric {
     BadPickles,
     BadRows,
     BadNames,
+    EmptiedNames,
     Lost(LossReason),
 }
 
@@ -82,6 +83,14 @@ fn push_acceptances(text: &mut String, receivers: &[ReceiverSnapshot]) -> Result
         "The datapoints that it accepted.",
         "counter",
         ReceiverMetric::Datapoints,
+        receivers,
+    )?;
+    push_receiver_family(
+        text,
+        "relayd_receiver_emptied_names_total",
+        "The accepted datapoints that rewriting dropped on purpose: it emptied their names.",
+        "counter",
+        ReceiverMetric::EmptiedNames,
         receivers,
     )
 }
@@ -316,6 +325,7 @@ fn receiver_value(metric: ReceiverMetric, receiver: &ReceiverSnapshot) -> u64
         ReceiverMetric::BadPickles => receiver.counts.readers.faults.bad_pickles,
         ReceiverMetric::BadRows => receiver.counts.readers.faults.bad_rows,
         ReceiverMetric::BadNames => receiver.counts.readers.faults.bad_names,
+        ReceiverMetric::EmptiedNames => receiver.counts.emptied,
         ReceiverMetric::Lost(reason) => receiver.losses.count_of(reason),
     }
 }

@@ -88,10 +88,15 @@ fn push_bad(text: &mut String, receiver: &ReceiverSnapshot) -> Result<(), AllocE
     }
 }
 
-/// Adds what connections it refused or closed, and what the system dropped.
+/// Adds how many datapoints were dropped on purpose, what connections it refused or closed, and what the system dropped.
 fn push_lost(text: &mut String, receiver: &ReceiverSnapshot) -> Result<(), AllocError> {
     let losses = receiver.losses;
     let kinds = [
+        (
+            receiver.counts.emptied,
+            " name emptied by rewriting",
+            " names emptied by rewriting",
+        ),
         (
             receiver.counts.refused,
             " connection refused",

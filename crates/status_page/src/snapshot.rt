@@ -65,6 +65,8 @@ pub struct DestSnapshot {
     pub counts: Counts,
     /// Whether it has a connection.
     pub is_up: bool,
+    /// Whether it never had one, and not all addresses of its host were tried.
+    pub is_starting: bool,
     /// For how many seconds it has had one, or has had none.
     pub since: u64,
     /// What its queue counted in each second of the last sample.

@@ -86,7 +86,9 @@ impl Accept for FailingListener {
         }
     }
 
-    fn note_totals(&mut self, _totals: ReadTotals) {}
+    fn note_totals(&mut self, _totals: ReadTotals, _emptied: u64) {}
+
+    fn note_served(&mut self, _token: Token, _has_datapoints: bool) {}
 
     fn note_fault(&mut self, _fault: ReadinessFault) {}
 }
@@ -132,7 +134,7 @@ impl Datagrams for FailingSocket {
         self.datagrams.read(buffer)
     }
 
-    fn note_totals(&mut self, _totals: ReadTotals) {}
+    fn note_totals(&mut self, _totals: ReadTotals, _emptied: u64) {}
 
     fn note_fault(&mut self, _fault: ReadinessFault) {}
 }

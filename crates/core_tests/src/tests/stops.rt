@@ -76,7 +76,9 @@ impl<'a> Accept for StoppingListener<'a> {
         })
     }
 
-    fn note_totals(&mut self, totals: ReadTotals) {
+    fn note_served(&mut self, _token: Token, _has_datapoints: bool) {}
+
+    fn note_totals(&mut self, totals: ReadTotals, _emptied: u64) {
         self.shared
             .datapoints
             .store(totals.readers.datapoints, Ordering::SeqCst);
