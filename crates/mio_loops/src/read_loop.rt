@@ -252,15 +252,10 @@ impl<S: Read + Drop> ReadLoop<S> {
         self.readers[token.0].rest()
     }
 
-    /// Whether offers of the reader of a token wait, since the door refused one.
-    pub fn has_waiting(&self, token: Token) -> bool
-        requires within { token.0 < MOST_CONNECTIONS }
-    {
-        self.readers[token.0].waiting() > 0
-    }
-
     /// Takes out the connection of a token, if it is held. Its reader, which stays as it is, has not ended: the connection goes
-    /// on elsewhere, behind [`ReadLoop::rest`]. The log does not change.
+    /// on elsewhere, behind [`ReadLoop::rest`]. So the loop serves and admits none from then on: another connection under
+    /// this token would be read behind that rest. Offers that wait, since the door was out of memory, are not made.
+    /// The log does not change.
     pub fn take_out(&mut self, token: Token) -> Option<S>
         ensures stream { MatchOption result (get self.old.sources token.0 ≡ None)
             (λ stream. (held : Counting S) × (get self.old.sources token.0 ≡ Some held)

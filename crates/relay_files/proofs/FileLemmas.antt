@@ -11,7 +11,6 @@ use Rattle.relay_files.specs.declared.role.Role.TheVariants.{Config, Rules, Rewr
 use Rattle.relay_files.specs.declared.fault.RelayFault.{RelayFault}
 use Rattle.relay_files.specs.declared.fault.RelayFault.TheVariants.{NoMemory, CannotRead}
 use Rattle.relay_files.specs.declared.source.Sources.{Sources}
-use Rattle.relay_files.specs.Checksum.{sum_of}
 use Rattle.relay_files.specs.Files.{File, Unreadable, Bytes, Files, IsReadOf, IsReadOfGiven, ReadAs, GivenReadAs, AllReadAs}
 use Rattle.relay_files.specs.Configuration.{Configuration, OtherFilesReadAs, configuration_of, settings_in, rules_given, rewrite_given, plan_from}
 use Rattle.relay_files.specs.Faults.{Fails, FailsRules, FailsRewrite, FailsRulesGiven, FailsRewriteGiven, EndsAt, AtConfig, AtRules, AtRewrite, AtAnswer, AtPlan}
@@ -44,14 +43,14 @@ same_end old read new files fault rules rewrite (AtPlan settings list rewriting 
 
 configuration_is : (files : Files) (settings : SettingValues) (rules : Option RuleList) (rewrite : List RewriteRule) (plan : Plan)
     → settings_in files.config ≡ Ok settings → rules_given none_refused settings.routing.destinations files.rules ≡ Ok rules → rewrite_given files.rewrite ≡ Ok rewrite
-    → plan_of settings rewrite rules ≡ Ok plan → configuration_of files ≡ Ok (record { settings = settings; plan = plan; sum = sum_of files })
+    → plan_of settings rewrite rules ≡ Ok plan → configuration_of files ≡ Ok (record { settings = settings; plan = plan; files = files })
 unfolding configuration_of
 configuration_is files settings rules rewrite plan a b c d = rw (a, b, c, d) refl
 
--- equal files have equal checksums
+-- with equal files it says the same
 said : (settings : SettingValues) (plan : Plan) (files other : Files) → files.config ≡ other.config → files.rules ≡ other.rules → files.rewrite ≡ other.rewrite
-    → let one : Result Configuration RelayFault = Ok (record { settings = settings; plan = plan; sum = sum_of files }) in
-    let two : Result Configuration RelayFault = Ok (record { settings = settings; plan = plan; sum = sum_of other }) in one ≡ two
+    → let one : Result Configuration RelayFault = Ok (record { settings = settings; plan = plan; files = files }) in
+    let two : Result Configuration RelayFault = Ok (record { settings = settings; plan = plan; files = other }) in one ≡ two
 said settings plan files other a b c = rw (a, b, c) refl
 
 -- the plan made from settings and files of rules
@@ -113,10 +112,10 @@ module _ {S : Type 0} (known : S → Option (List ℕ)) where
       → GivenReadAs known sources.rules (λ file. (rules_given none_refused settings.routing.destinations file ≡ Ok rules) × (file ≡ rules_read))
       → GivenReadAs known sources.rewrite (λ file. (rewrite_given file ≡ Ok rewrite) × (file ≡ rewrite_read)) → plan_of settings rewrite rules ≡ Ok plan
       → OtherFilesReadAs known sources settings (λ files. configuration_of files
-      ≡ Ok (record { settings = settings; plan = plan; sum = sum_of (record { config = files.config; rules = rules_read; rewrite = rewrite_read }) }))
+      ≡ Ok (record { settings = settings; plan = plan; files = record { config = files.config; rules = rules_read; rewrite = rewrite_read } }))
   others_say sources settings rules rewrite plan rules_read rewrite_read a b made =
       others_read sources settings _ _
-      (λ files. configuration_of files ≡ Ok (record { settings = settings; plan = plan; sum = sum_of (record { config = files.config; rules = rules_read; rewrite = rewrite_read }) })) a b
+      (λ files. configuration_of files ≡ Ok (record { settings = settings; plan = plan; files = record { config = files.config; rules = rules_read; rewrite = rewrite_read } })) a b
       (λ config_file rules_file rewrite_file config given rewritten.
       configuration_is (record { config = config_file; rules = rules_file; rewrite = rewrite_file }) settings rules rewrite plan config given.0 rewritten.0 made
       ∙ said settings plan (record { config = config_file; rules = rules_file; rewrite = rewrite_file }) (record { config = config_file; rules = rules_read; rewrite = rewrite_read })
@@ -126,9 +125,9 @@ module _ {S : Type 0} (known : S → Option (List ℕ)) where
   pub all_say : (sources : Sources S) (settings : SettingValues) (plan : Plan) (bytes : List ℕ) (rules_read rewrite_read : Option File)
       → ReadAs (known sources.config) (λ file. (settings_in file ≡ Ok settings) × (file ≡ Bytes bytes))
       → OtherFilesReadAs known sources settings (λ files. configuration_of files
-      ≡ Ok (record { settings = settings; plan = plan; sum = sum_of (record { config = files.config; rules = rules_read; rewrite = rewrite_read }) }))
+      ≡ Ok (record { settings = settings; plan = plan; files = record { config = files.config; rules = rules_read; rewrite = rewrite_read } }))
       → AllReadAs known sources (λ files. configuration_of files
-      ≡ Ok (record { settings = settings; plan = plan; sum = sum_of (record { config = Bytes bytes; rules = rules_read; rewrite = rewrite_read }) }))
+      ≡ Ok (record { settings = settings; plan = plan; files = record { config = Bytes bytes; rules = rules_read; rewrite = rewrite_read } }))
   all_say sources settings plan bytes rules_read rewrite_read config others =
       let rest = others config.0 config.2.0 in (
         record { config = config.0; rules = rest.0; rewrite = rest.2.0 },

@@ -1,4 +1,4 @@
--- What the files of a configuration say: the settings and the plan, with the checksum of the files; or the first fault.
+-- What the files of a configuration say: the settings and the plan, with the files; or the first fault.
 use Rattle.std.specs.Prelude.{◌≡◌, ℕ, Bool, List, [], Option, Some, None, Result, Ok, Err, if◌then◌else◌, false}
 use Rattle.std.specs.Str.{is_utf8}
 use Rattle.conf_text.specs.Sections.{SectionText}
@@ -14,7 +14,6 @@ use Rattle.router.specs.Plan.{Plan, ByRing, plan_of}
 use Rattle.relay_files.specs.declared.role.Role.{Role}
 use Rattle.relay_files.specs.declared.role.Role.TheVariants.{Config, Rules, Rewrite}
 use Rattle.relay_files.specs.declared.source.Sources.{Sources}
-use Rattle.relay_files.specs.Checksum.{sum_of}
 use Rattle.relay_files.specs.Files.{File, Unreadable, Bytes, Files, GivenReadAs}
 use Rattle.relay_files.specs.declared.fault.RelayFault.{RelayFault}
 use Rattle.relay_files.specs.declared.fault.RelayFault.TheVariants.{CannotRead, NotText}
@@ -71,8 +70,7 @@ plan_in settings rewrite rules = with_fault plan_fault (plan_of settings rewrite
 pub record Configuration : Type 0 where
   pub settings : SettingValues
   pub plan : Plan
-  -- the checksum of the files
-  pub sum : List ℕ
+  pub files : Files
 
 -- what the files say: the order of the checks is that of the lines
 unfoldable pub configuration_of : Files → Result Configuration RelayFault
@@ -81,7 +79,7 @@ configuration_of files = do
   rules ← rules_given none_refused settings.routing.destinations files.rules
   rewrite ← rewrite_given files.rewrite
   plan ← plan_in settings rewrite rules
-  Ok (record { settings = settings; plan = plan; sum = sum_of files })
+  Ok (record { settings = settings; plan = plan; files = files })
 
 -- a statement holds for a configuration file that says these settings, and what was read from the other sources
 abbrev pub OtherFilesReadAs : {S : Type 0} → (S → Option (List ℕ)) → Sources S → SettingValues

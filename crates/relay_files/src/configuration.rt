@@ -4,7 +4,6 @@ ghost use Rattle.std.specs.Prelude.{◌≡◌, Ok, Err, true, length, IfOk, IfEr
 ghost use Rattle.relay_rules.specs.Answers.{none_refused};
 ghost use Rattle.router.specs.Plan.{are_read_for};
 ghost use Rattle.relay_rules.specs.Rules.{names_below};
-ghost use Rattle.relay_files.specs.Checksum.{sum_of};
 ghost use Rattle.relay_files.specs.Files.{Bytes, ReadAs, GivenReadAs, AllReadAs};
 ghost use Rattle.relay_files.specs.Configuration.{OtherFilesReadAs, text_in, ini_in, settings_in, rules_in, rules_given, rewrite_in, rewrite_given, configuration_of, file_of, files_of, plan_from};
 ghost use Rattle.relay_files.specs.Faults.{Fails, FailsRules, FailsRewrite, FailsRulesGiven, FailsRewriteGiven, EndsAt};
@@ -47,7 +46,7 @@ impl Configuration {
             (λ files. configuration_of files ≡ Ok (record {
               settings = c.settings;
               plan = c.plan;
-              sum = sum_of (files_of (λ v. v.items) c.config c.rules c.rewrite);
+              files = files_of (λ v. v.items) c.config c.rules c.rewrite;
             }))) }
         ensures made { IfOk result (λ c. plan_from c.settings
             (file_of (λ v. v.items) c.rules) (file_of (λ v. v.items) c.rewrite) ≡ Ok c.plan) }
@@ -84,11 +83,11 @@ fn plan_from<S: Source>(
         (λ files. configuration_of files ≡ Ok (record {
           settings = settings.now;
           plan = read.0;
-          sum = sum_of (record {
+          files = record {
             config = files.config;
             rules = file_of (λ v. v.items) read.1;
             rewrite = file_of (λ v. v.items) read.2;
-          });
+          };
         }))) }
     ensures made { IfOk result (λ read. plan_from settings.now
         (file_of (λ v. v.items) read.1) (file_of (λ v. v.items) read.2) ≡ Ok read.0) }

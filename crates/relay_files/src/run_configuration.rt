@@ -1,9 +1,9 @@
 //! A configuration that gives several plans.
 
-ghost use Rattle.std.specs.Prelude.{◌≡◌, Ok, true, length, IfOk, IfErr};
+ghost use Rattle.std.specs.Prelude.{◌≡◌, ◌↔◌, Ok, true, length, IfOk, IfErr, IsTrue};
 ghost use Rattle.relay_rules.specs.Answers.{none_refused};
 ghost use Rattle.router.specs.Plan.{are_read_for, stays_below};
-ghost use Rattle.relay_files.specs.Checksum.{bytes_given};
+ghost use Rattle.relay_files.specs.Checksum.{bytes_given, sum_of};
 ghost use Rattle.relay_files.specs.Files.{AllReadAs};
 ghost use Rattle.relay_files.specs.Faults.{EndsAt, FailsRulesGiven, FailsRewriteGiven, IsRemakingFault};
 ghost use Rattle.relay_files.specs.Configuration.{configuration_of, file_of, rules_given, rewrite_given};
@@ -23,7 +23,7 @@ use std::marker::Model;
 /// The settings of a configuration, and its files as they were read: each receiver has its own plan, made from the same
 /// texts.
 ///
-/// In clauses it is the settings, the plan that all of them are, and the checksum of the files.
+/// In clauses it is the settings, the plan that all of them are, and the files.
 #[derive(Drop)]
 pub struct RunConfiguration {
     settings: Settings,
@@ -33,7 +33,6 @@ pub struct RunConfiguration {
 }
 
 impl Model for RunConfiguration {
-    ghost use Rattle.relay_files.specs.Checksum.{sum_of};
     ghost use Rattle.relay_files.specs.Configuration.{Configuration, plan_made, file_of, files_of};
 
     ghost Value = { Configuration };
@@ -42,7 +41,7 @@ impl Model for RunConfiguration {
       settings = c.settings;
       plan = plan_made c.settings (file_of (λ v. v.items) c.rules)
           (file_of (λ v. v.items) c.rewrite);
-      sum = sum_of (files_of (λ v. v.items) c.config c.rules c.rewrite);
+      files = files_of (λ v. v.items) c.config c.rules c.rewrite;
     } };
 
     ghost use Rattle.relay_files.specs.Configuration.{HavePlan};
@@ -93,7 +92,7 @@ impl RunConfiguration {
 
     /// The checksum of its files ([`configuration_sum`]); one that is not there has no bytes.
     pub fn sum(&self) -> [u8; DIGEST_LEN]
-        ensures { result ≡ self.now.sum }
+        ensures { result ≡ sum_of self.now.files }
     {
         configuration_sum(
             self.config.as_slice(),
@@ -102,13 +101,17 @@ impl RunConfiguration {
         )
     }
 
-    /// Whether another configuration has the same file of relay rules, or none as this one.
-    pub fn has_same_rules(&self, other: &RunConfiguration) -> bool {
+    /// Whether another configuration has the same relay rules, byte by byte; a file that is not there has no bytes.
+    pub fn has_same_rules(&self, other: &RunConfiguration) -> bool
+        ensures { IsTrue result ↔ (bytes_given self.now.files.rules ≡ bytes_given other.now.files.rules) }
+    {
         bytes_of(&self.rules) == bytes_of(&other.rules)
     }
 
-    /// Whether another configuration has the same rewrite file, with the same limit on names.
-    pub fn has_same_rewriting(&self, other: &RunConfiguration) -> bool {
+    /// Whether another configuration has the same rewrite file, with the same limit on names, which is its last line.
+    pub fn has_same_rewriting(&self, other: &RunConfiguration) -> bool
+        ensures { IsTrue result ↔ (bytes_given self.now.files.rewrite ≡ bytes_given other.now.files.rewrite) }
+    {
         bytes_of(&self.rewrite) == bytes_of(&other.rewrite)
     }
 

@@ -1,5 +1,6 @@
 -- What remains to be sent to a destination.
-use Rattle.std.specs.Prelude.{ℕ, ◌≡◌, ◌⊎◌, ◌-◌}
+use Rattle.std.specs.Prelude.{ℕ, ◌≡◌, ◌⊎◌, ◌-◌, ◌+◌, min}
+use Rattle.dest_queue.specs.Offer.{last_count}
 use Rattle.dest_queue.specs.declared.counts.Counts.{Counts}
 use Rattle.locked_queues.specs.LockFact.{IsLockFact}
 
@@ -14,3 +15,10 @@ pub record IsLeftOf (size left : ℕ) : Type 0 where
   pub counts : Counts
   pub fact : IsLockFact size place counts
   pub is : (left ≡ counts.queued) ⊎ ((taken : ℕ) × (left ≡ left_of counts.kept taken))
+
+-- that of this run and of the ended ones, at most the greatest count; of theirs, an atomic word, no clause can speak
+pub record IsLeftInAll (size left : ℕ) : Type 0 where
+  pub of_run : ℕ
+  pub run : IsLeftOf size of_run
+  pub rest : ℕ
+  pub all : left ≡ min last_count (rest + of_run)

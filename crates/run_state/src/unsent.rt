@@ -1,7 +1,7 @@
 //! What remains to be sent.
 
 ghost use Rattle.std.specs.Prelude.{◌≡◌, ◌≤◌, ◌<◌, length};
-ghost use Rattle.run_state.specs.Unsent.{IsLeftOf, left_of};
+ghost use Rattle.run_state.specs.Unsent.{IsLeftOf, IsLeftInAll, left_of};
 
 use crate::end_state::EndState;
 use crate::run_state::DestSources;
@@ -71,6 +71,7 @@ impl<'x, B: Set> Unsent<'x, B> {
     /// by its connections to the last byte: they are queued or in hand.
     pub fn left_at<R: Wait>(&self, rt: &R, place: usize) -> u64
         requires place { place < B.dests }
+        ensures left { IsLeftInAll B.size result }
     {
         let rest = match self.noted.rests.get(place) {
             Some(rest) => rest.left(),

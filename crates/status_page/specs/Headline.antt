@@ -1,7 +1,7 @@
 -- What the status says first: the worst that is true, and of which destination or receiver: a loss of the one that loses
 -- most, all else of the first.
-use Rattle.std.specs.Prelude.{ℕ, ◌≤◌, ◌<◌, ◌/◌, nat_lt, nat_le, Bool, true, false, not, ◌&&◌, ◌||◌, List, Option, None, Some, codes, if◌then◌else◌}
-use Rattle.std.specs.List.{list_all, position}
+use Rattle.std.specs.Prelude.{ℕ, ◌≤◌, ◌<◌, ◌/◌, nat_lt, nat_le, Bool, true, false, not, ◌&&◌, ◌||◌, List, ◌++◌, length, Option, None, Some, codes, decimal, if◌then◌else◌}
+use Rattle.std.specs.List.{list_all, position, count_by}
 use Rattle.log_lines.specs.declared.receiver_notes.ReceiverState.{ReceiverState}
 use Rattle.log_lines.specs.declared.receiver_notes.ReceiverState.TheVariants as state
 use Rattle.status_page.specs.declared.headline.Headline.{Headline}
@@ -99,3 +99,35 @@ state_name (it.Flapping place) = codes "flapping"
 state_name (it.Bad place) = codes "bad_input"
 state_name it.Silent = codes "no_input"
 state_name it.Well = codes "well"
+
+-- the words with which the sentence on it begins; of destinations that are away they come behind their number
+abbrev pub opening_words : Headline → List ℕ
+opening_words it.Stopping = codes "STOPPING: "
+opening_words (it.Losing place) = codes "LOSING "
+opening_words (it.Deaf place) = codes "NOT RECEIVING"
+opening_words (it.Filling place) = codes "FILLING: "
+opening_words (it.Stuck place) = codes "STUCK: "
+opening_words (it.Away place) = codes " away"
+opening_words (it.Flapping place) = codes "FLAPPING: "
+opening_words (it.Bad place) = codes "bad input: "
+opening_words it.Silent = codes "no input for "
+opening_words it.Well = codes "all well: "
+
+abbrev pub is_of_away : Headline → Bool
+is_of_away it.Stopping = false
+is_of_away (it.Losing place) = false
+is_of_away (it.Deaf place) = false
+is_of_away (it.Filling place) = false
+is_of_away (it.Stuck place) = false
+is_of_away (it.Away place) = true
+is_of_away (it.Flapping place) = false
+is_of_away (it.Bad place) = false
+is_of_away it.Silent = false
+is_of_away it.Well = false
+
+-- how the sentence begins: `STUCK: `, or `2 of 3 away`
+abbrev pub opening : List DestSnapshot → Headline → List ℕ
+opening dests h =
+    if is_of_away h
+    then decimal (count_by is_away dests) ++ codes " of " ++ decimal (length dests) ++ opening_words h
+    else opening_words h

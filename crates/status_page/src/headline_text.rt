@@ -1,5 +1,10 @@
 //! The sentence that the page and its tab begin with.
 
+ghost use Rattle.std.specs.Prelude.{◌≡◌, ◌++◌, codes, decimal, length, OnOk};
+ghost use Rattle.std.specs.List.{count_by};
+ghost use Rattle.std.specs.String.{string_bytes};
+ghost use Rattle.status_page.specs.Headline.{is_away, is_of_away, opening, opening_words};
+
 use crate::headline::{Headline, is_away, is_losing, is_stuck};
 use crate::numbers::{push_count, push_duration, push_millis};
 use crate::plain::plain;
@@ -14,6 +19,7 @@ pub(crate) fn push_headline(
     now: &Snapshot,
     headline: Headline,
 ) -> Result<(), AllocError> {
+    push_opening(text, now.dests.as_slice(), headline)?;
     match headline {
         Headline::Stopping => push_stopping(text, now),
         Headline::Losing { place } => push_losing(text, now, place),
@@ -23,23 +29,70 @@ pub(crate) fn push_headline(
         Headline::Away { place } => push_away(text, now, place),
         Headline::Flapping { place } => push_flapping(text, now, place),
         Headline::Bad { place } => push_bad(text, now, place),
-        Headline::Silent => {
-            text.push_str("no input for ")?;
-            push_duration(text, now.silence)
-        }
+        Headline::Silent => push_duration(text, now.silence),
         Headline::Well => push_well(text, now),
     }
 }
 
+/// Adds the beginning of the sentence, by which the headlines differ.
+fn push_opening(
+    text: &mut String,
+    dests: &[DestSnapshot],
+    headline: Headline,
+) -> Result<(), AllocError>
+    ensures { OnOk result (string_bytes text.new ≡ string_bytes text.old ++ opening dests.now headline) }
+{
+    if is_of_away(headline) {
+        push_away_count(text, dests)?;
+    }
+    text.push_str(opening_words(headline))
+}
+
+fn is_of_away(headline: Headline) -> bool
+    ensures { result ≡ is_of_away headline }
+{
+    matches!(headline, Headline::Away { .. })
+}
+
+/// Adds how many destinations are away, and of how many.
+fn push_away_count(text: &mut String, dests: &[DestSnapshot]) -> Result<(), AllocError>
+    ensures { OnOk result (string_bytes text.new ≡ string_bytes text.old
+        ++ decimal (count_by is_away dests.now) ++ codes " of " ++ decimal (length dests.now)) }
+{
+    write!(text, "{} of {}", away_count(dests), dests.len())
+}
+
+fn away_count(dests: &[DestSnapshot]) -> usize
+    ensures { result ≡ count_by is_away dests.now }
+{
+    dests.iter().filter(|dest| is_away(dest)).count()
+}
+
+/// The words with which the sentence begins.
+fn opening_words(headline: Headline) -> &'static str
+    ensures { result.now ≡ opening_words headline }
+{
+    match headline {
+        Headline::Stopping => "STOPPING: ",
+        Headline::Losing { .. } => "LOSING ",
+        Headline::Deaf { .. } => "NOT RECEIVING",
+        Headline::Filling { .. } => "FILLING: ",
+        Headline::Stuck { .. } => "STUCK: ",
+        Headline::Away { .. } => " away",
+        Headline::Flapping { .. } => "FLAPPING: ",
+        Headline::Bad { .. } => "bad input: ",
+        Headline::Silent => "no input for ",
+        Headline::Well => "all well: ",
+    }
+}
+
 fn push_stopping(text: &mut String, now: &Snapshot) -> Result<(), AllocError> {
-    text.push_str("STOPPING: ")?;
     push_count(text, now.queued)?;
     text.push_str(" datapoints queued")
 }
 
 /// Adds how much is lost, by which destination and why, and how many others lose too.
 fn push_losing(text: &mut String, now: &Snapshot, place: usize) -> Result<(), AllocError> {
-    text.push_str("LOSING ")?;
     push_count(text, now.rates.dropped)?;
     text.push_str(" a second: ")?;
     let dests = now.dests.as_slice();
@@ -84,7 +137,6 @@ pub(crate) fn push_trouble(text: &mut String, dest: &DestSnapshot) -> Result<(),
 }
 
 fn push_deaf(text: &mut String, now: &Snapshot, place: usize) -> Result<(), AllocError> {
-    text.push_str("NOT RECEIVING")?;
     let Some(receiver) = now.receivers.as_slice().get(place) else {
         return Ok(());
     };
@@ -101,7 +153,6 @@ fn push_why(text: &mut String, receiver: &ReceiverSnapshot) -> Result<(), AllocE
 }
 
 fn push_filling(text: &mut String, now: &Snapshot, place: usize) -> Result<(), AllocError> {
-    text.push_str("FILLING: ")?;
     let Some(dest) = now.dests.as_slice().get(place) else {
         return Ok(());
     };
@@ -119,7 +170,6 @@ pub(crate) fn seconds_to_full(dest: &DestSnapshot, size: u64) -> u64 {
 }
 
 fn push_stuck(text: &mut String, now: &Snapshot, place: usize) -> Result<(), AllocError> {
-    text.push_str("STUCK: ")?;
     let Some(dest) = now.dests.as_slice().get(place) else {
         return Ok(());
     };
@@ -130,19 +180,14 @@ fn push_stuck(text: &mut String, now: &Snapshot, place: usize) -> Result<(), All
     text.push_str(" queued")
 }
 
-/// Adds how many destinations are away, and how full their queues are at most.
+/// Adds which destination is away, if it is one, and how full the queues are at most.
 fn push_away(text: &mut String, now: &Snapshot, place: usize) -> Result<(), AllocError> {
     let dests = now.dests.as_slice();
-    let mut count: usize = 0;
     let mut fullest: u64 = 0;
     for dest in dests {
-        if is_away(dest) {
-            count = count.saturating_add(1);
-        }
         fullest = fullest.max(dest.counts.queued);
     }
-    write!(text, "{count} of {} away", dests.len())?;
-    if count == 1 {
+    if away_count(dests) == 1 {
         if let Some(dest) = dests.get(place) {
             write!(text, ": {}", dest.dest)?;
         }
@@ -166,13 +211,12 @@ fn push_flapping(text: &mut String, now: &Snapshot, place: usize) -> Result<(), 
     };
     write!(
         text,
-        "FLAPPING: {} lost its connection {} times in a minute",
+        "{} lost its connection {} times in a minute",
         dest.dest, dest.connections.lost_lately
     )
 }
 
 fn push_bad(text: &mut String, now: &Snapshot, place: usize) -> Result<(), AllocError> {
-    text.push_str("bad input: ")?;
     let Some(receiver) = now.receivers.as_slice().get(place) else {
         return Ok(());
     };
@@ -181,7 +225,6 @@ fn push_bad(text: &mut String, now: &Snapshot, place: usize) -> Result<(), Alloc
 }
 
 fn push_well(text: &mut String, now: &Snapshot) -> Result<(), AllocError> {
-    text.push_str("all well: ")?;
     push_count(text, now.rates.received)?;
     text.push_str(" a second in, ")?;
     push_count(text, now.rates.written)?;

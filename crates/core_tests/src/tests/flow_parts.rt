@@ -2,7 +2,7 @@
 
 ghost use Rattle.std.specs.Prelude.{◌≡◌};
 
-use crate::tests::gates::{HoldsFirst, MOST_TURNS, comes_true};
+use crate::tests::gates::{Holds, MOST_TURNS, comes_true};
 use crate::tests::stores::{Store, any_port};
 use conf_text::Dest;
 use locked_queues::{
@@ -51,7 +51,7 @@ pub(crate) struct Common<'c, B: Set> {
     pub(crate) queues: &'c Queues<B>,
     // How many queues there are.
     pub(crate) dests: usize,
-    pub(crate) gate: &'c HoldsFirst,
+    pub(crate) gate: &'c Holds,
     pub(crate) config: &'c str,
     // The destinations of that configuration.
     pub(crate) listed: &'c str,
@@ -197,7 +197,7 @@ fn send_by<B: Set, R: Threads + Wait + Clock + Net + Resolve + Copy + Send + Dro
     rt: &R,
     alloc: Global,
     common: &Common<'_, B>,
-    outlet: Outlet<'_, '_, '_, B, R, HoldsFirst>,
+    outlet: Outlet<'_, '_, '_, B, R, Holds>,
     dests: &[Dest],
     readiness: Option<Readiness>,
     alarm: &Alarm,
@@ -306,19 +306,28 @@ fn stop_when_taken<B: Set, R: Wait + Clock>(
     common.stop.store(true, Ordering::SeqCst);
 }
 
-/// Releases the first receiver once it is held and queue 1 has counted an offer, unless it never is held.
+/// Releases the first receiver once it is held and queue 1 has counted an offer. If that does not come, the gate has given up.
 fn release<B: Set, R: Wait>(rt: &R, common: &Common<'_, B>) {
     let gate = common.gate;
     if gate.is_released.load(Ordering::SeqCst) {
         return;
     }
-    if common.dests > 1 && comes_true(&gate.is_held) {
-        for _ in 0..MOST_TURNS {
-            if common.queues.counts(rt, DestId(1)).offered > 0 {
-                break;
-            }
-            thread::yield_now();
-        }
+    if !comes_true(&gate.is_held) || !gets_offer(rt, common) {
+        gate.has_given_up.store(true, Ordering::SeqCst);
     }
     gate.is_released.store(true, Ordering::SeqCst);
+}
+
+/// Waits for an offer to queue 1, but not for ever.
+fn gets_offer<B: Set, R: Wait>(rt: &R, common: &Common<'_, B>) -> bool {
+    if common.dests < 2 {
+        return false;
+    }
+    for _ in 0..MOST_TURNS {
+        if common.queues.counts(rt, DestId(1)).offered > 0 {
+            return true;
+        }
+        thread::yield_now();
+    }
+    false
 }

@@ -4,7 +4,7 @@
 ghost use Rattle.std.specs.Prelude.{◌≡◌};
 
 use crate::tests::flow_parts::{Common, FlowRuntime, Parts, Producer, Records, in_threads};
-use crate::tests::gates::HoldsFirst;
+use crate::tests::gates::Holds;
 use crate::tests::shapes::{Shape, open_set};
 use crate::tests::stores::Store;
 use dest_queue::Counts;
@@ -169,11 +169,7 @@ fn is_moved_to<B: Set + Send + Sync, R: FlowRuntime>(
 ) -> Option<bool>
     requires { flow.now.shape.dests ≡ B.dests }
 {
-    let gate = HoldsFirst {
-        is_held: AtomicBool::new(false),
-        is_released: AtomicBool::new(!flow.is_held),
-        has_given_up: AtomicBool::new(false),
-    };
+    let gate = Holds::offers_to(0, !flow.is_held);
     let listed = list_of(alloc, stores)?;
     let config = ring_of(alloc, listed.as_str())?;
     let stop = AtomicBool::new(false);

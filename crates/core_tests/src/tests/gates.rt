@@ -20,20 +20,33 @@ use std::thread::Threads;
 // How often a thread looks whether another has got on, before it gives up.
 pub(crate) const MOST_TURNS: u64 = 1_000_000;
 
-/// Holds the first offer to destination 0 until it is released.
+/// Holds the offers to a destination until they are released.
 #[derive(Drop)]
-pub(crate) struct HoldsFirst {
+pub(crate) struct Holds {
+    dest: DestId,
     pub(crate) is_held: AtomicBool,
     pub(crate) is_released: AtomicBool,
     pub(crate) has_given_up: AtomicBool,
 }
 
-impl Gate for HoldsFirst {
+impl Holds {
+    /// Offers to this destination are held, or released from the start.
+    pub(crate) fn offers_to(dest: usize, is_released: bool) -> Holds {
+        Holds {
+            dest: DestId(dest),
+            is_held: AtomicBool::new(false),
+            is_released: AtomicBool::new(is_released),
+            has_given_up: AtomicBool::new(false),
+        }
+    }
+}
+
+impl Gate for Holds {
     fn at(&self, point: GatePoint) {
         let GatePoint::InOffer { dest, .. } = point else {
             return;
         };
-        if dest == DestId(0) {
+        if dest == self.dest {
             self.is_held.store(true, Ordering::SeqCst);
             if !comes_true(&self.is_released) {
                 self.has_given_up.store(true, Ordering::SeqCst);
@@ -58,7 +71,7 @@ fn offer_once<B: Set, R: Wait>(
     rt: &R,
     queues: &Queues<B>,
     seat: Option<DoorSeat<B>>,
-    gate: &HoldsFirst,
+    gate: &Holds,
     reader: usize,
     dest: usize,
     point: &Arc<Point>,
@@ -78,7 +91,7 @@ fn takes_one<B: Set, R: Wait>(
     alloc: Global,
     queues: &Queues<B>,
     seat: Option<OutletSeat<B>>,
-    gate: &HoldsFirst,
+    gate: &Holds,
 ) -> bool {
     let Some(seat) = seat else {
         return false;
@@ -91,7 +104,7 @@ fn takes_one<B: Set, R: Wait>(
 
 fn take_from<B: Set, R: Wait>(
     alloc: Global,
-    outlet: &mut Outlet<'_, '_, '_, B, R, HoldsFirst>,
+    outlet: &mut Outlet<'_, '_, '_, B, R, Holds>,
     dest: DestId,
 ) -> Option<usize> {
     let mut hand = Hand::new(alloc, 5).ok()?;
@@ -108,7 +121,7 @@ fn held_by_one<B: Set + Send + Sync, R: Threads + Wait + Sync>(
     queues: &Queues<B>,
     doors: Vec<DoorSeat<B>>,
     outlets: Vec<OutletSeat<B>>,
-    gate: &HoldsFirst,
+    gate: &Holds,
     point: &Arc<Point>,
 ) -> Option<bool> {
     thread::scope(thread::scope_env(), rt, |scope| -> Option<bool> {
@@ -136,11 +149,7 @@ fn goes_on<B: Set + Send + Sync, R: Threads + Wait + Sync>(
     requires { 2 ≡ B.dests }
 {
     let shared = point(alloc, "a.b")?;
-    let gate = HoldsFirst {
-        is_held: AtomicBool::new(false),
-        is_released: AtomicBool::new(false),
-        has_given_up: AtomicBool::new(false),
-    };
+    let gate = Holds::offers_to(0, false);
     let is_held = held_by_one(rt, alloc, queues, doors, outlets, &gate, &shared) == Some(true);
     let counts = queues.counts(rt, DestId(1));
     Some(is_held && !gate.has_given_up.load(Ordering::SeqCst) && counts.taken == 1)

@@ -3,7 +3,7 @@
 ghost use Rattle.std.specs.Prelude.{◌≤◌};
 
 use crate::tests::points::point;
-use dest_queue::{DestQueue, Hand, Kept, LARGEST_SIZE, MOST_STEPS, NoMemory, Step};
+use dest_queue::{Counts, DestQueue, Hand, Kept, LARGEST_SIZE, MOST_STEPS, NoMemory, Step};
 use line_text::Point;
 use std::alloc::Global;
 use std::sync::Arc;
@@ -131,16 +131,22 @@ impl Passing {
         Some([before, after, self.owners()])
     }
 
-    // Whether the queue, after 131,073 offers, has sealed two histories, and has the last offer alone in the third. It
-    // dropped that one.
+    // Whether the queue, after 131,073 offers, has sealed two histories, and has the last offer alone in the third, which it
+    // dropped. The base holds the first two, and is full, so one drop more leads from it to the queue.
     fn seals_twice(&mut self) -> Option<bool> {
         self.offer(MOST_STEPS * 2 + 1)?;
         let base = self.queue.base();
+        let mut replayed = base.counts();
+        replayed.offered = replayed.offered.saturating_add(1);
+        replayed.dropped = replayed.dropped.saturating_add(1);
         Some(
             is_dropped_alone(self.queue.history(), 131_072)
                 && base.next_numbers() == [131_072].as_slice()
-                && base.counts().seals == 2
-                && base.counts().kept == 2,
+                && base.counts() == FULL_BASE
+                && base.len() == 2
+                && is_named(base.point(0), "a.b")
+                && is_named(base.point(1), "a.b")
+                && replayed == self.queue.counts(),
         )
     }
 }
@@ -152,6 +158,24 @@ fn offer_to(queue: &mut DestQueue, next: &mut u64, point: &Arc<Point>, times: us
         *next = next.checked_add(1)?;
     }
     Some(())
+}
+
+// What a queue of size 2 has counted at its second seal, after that many offers.
+const FULL_BASE: Counts = Counts {
+    offered: 131_072,
+    kept: 2,
+    dropped: 131_070,
+    taken: 0,
+    queued: 2,
+    seals: 2,
+};
+
+// Whether this is a datapoint of this name.
+fn is_named(point: Option<&Point>, name: &str) -> bool {
+    match point {
+        Some(point) => point.name.text() == name,
+        None => false,
+    }
 }
 
 // Whether these steps are one offer with this number, which was dropped.

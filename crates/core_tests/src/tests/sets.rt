@@ -3,10 +3,10 @@ ghost use Rattle.std.specs.Prelude.{◌≡◌, ◌≤◌};
 
 use crate::tests::points::point;
 use crate::tests::shapes::{Shape, open_set};
-use dest_queue::{Counts, Hand};
+use dest_queue::{Counts, Hand, QueuedPoints};
 use line_text::Point;
 use locked_queues::{
-    BlankTotals, Door, DoorRecord, DoorSeat, LockedDoor, OpenGate, Opened, Outlet, OutletRecord,
+    BlankTotals, Door, DoorRecord, DoorSeat, EndedSet, LockedDoor, OpenGate, Opened, Outlet, OutletRecord,
     OutletSeat, Queues, READERS_EACH, Set, SettleFault, Settled, Supply,
 };
 use relay_base::DestId;
@@ -37,6 +37,18 @@ pub(crate) struct SetReport {
     /// What the first queue has counted after the settling.
     pub(crate) counts: Counts,
     pub(crate) seen: Observations,
+    pub(crate) end: SetEnd,
+}
+
+/// What the queues of a set left at their end.
+#[derive(Drop)]
+pub(crate) struct SetEnd {
+    /// What each had counted.
+    pub(crate) counts: Vec<Counts>,
+    /// The names of the datapoints that each held, one after another: the last destination first.
+    pub(crate) left: Vec<String>,
+    /// How they settle then.
+    pub(crate) settled: Result<Settled, SettleFault>,
 }
 
 /// What was seen of a set while it was used.
@@ -259,11 +271,50 @@ fn do_all<B: Set, R: Wait>(
     records_of(alloc, doors, outlets)
 }
 
-/// Does all of this to a set and settles it, with its own records or with those of another.
+/// Ends the queues, and settles them with these records then.
+fn end_set<B: Set>(alloc: Global, queues: Queues<B>, records: &Records) -> Option<SetEnd> {
+    let room = queues.end_room(alloc).ok()?;
+    let mut ended = queues.end(room);
+    let noted = note_end(alloc, &mut ended);
+    let settled = ended.settle(alloc, records.doors.as_slice(), records.outlets.as_slice());
+    let (counts, left) = noted?;
+    Some(SetEnd {
+        counts,
+        left,
+        settled,
+    })
+}
+
+/// What each queue had counted, and the names of the datapoints that each held, the last destination first.
+fn note_end(alloc: Global, ended: &mut EndedSet) -> Option<(Vec<Counts>, Vec<String>)> {
+    let mut counts = Vec::new(alloc);
+    counts.extend_from_slice(ended.counts()).ok()?;
+    let mut left = Vec::new(alloc);
+    for _ in 0..counts.len() {
+        let points = ended.take_points()?;
+        left.push(names_of(alloc, points)?).ok()?;
+    }
+    Some((counts, left))
+}
+
+/// The names of datapoints that were queued, one after another.
+fn names_of(alloc: Global, points: QueuedPoints) -> Option<String> {
+    let mut points = points;
+    let mut names = String::new(alloc);
+    let count = points.len();
+    let mut hand = Hand::new(alloc, count).ok()?;
+    points.take(count, &mut hand);
+    let noted = note_names(hand.points(), &mut names);
+    drop((points, hand));
+    noted?;
+    Some(names)
+}
+
+/// Does all of this to a set and settles it, with its own records or with those of another, before its end and then.
 fn report_of<B: Set, R: Wait>(
     rt: &R,
     alloc: Global,
-    queues: &mut Queues<B>,
+    mut queues: Queues<B>,
     seats: Vec<DoorSeat<B>>,
     outlet_seats: Vec<OutletSeat<B>>,
     acts: &[Act],
@@ -279,23 +330,23 @@ fn report_of<B: Set, R: Wait>(
     let records = do_all(
         rt,
         alloc,
-        queues,
+        &queues,
         seats,
         outlet_seats,
         acts,
         dests,
         &mut seen,
     )?;
-    let settled = match others {
-        None => queues.settle(alloc, records.doors.as_slice(), records.outlets.as_slice()),
-        Some(others) => queues.settle(alloc, others.doors.as_slice(), others.outlets.as_slice()),
-    };
+    let compared = others.unwrap_or(&records);
+    let settled = queues.settle(alloc, compared.doors.as_slice(), compared.outlets.as_slice());
     let counts = queues.counts(rt, DestId(0));
+    let end = end_set(alloc, queues, compared)?;
     Some(SetReport {
         records,
         settled,
         counts,
         seen,
+        end,
     })
 }
 
@@ -317,22 +368,20 @@ pub(crate) fn settle_set<B: Set, R: Wait>(
         return None;
     }
     let Opened {
-        mut queues,
+        queues,
         doors,
         outlets,
     } = open_set::<B>(alloc, blank, shape)?;
-    let reported = report_of(
+    report_of(
         rt,
         alloc,
-        &mut queues,
+        queues,
         doors,
         outlets,
         acts,
         shape.dests,
         others,
-    );
-    drop(queues);
-    reported
+    )
 }
 
 /// What a set reports after all of this.

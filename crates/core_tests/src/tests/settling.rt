@@ -1,9 +1,9 @@
-//! Settling: the worked examples of queues and records that agree, and of those that do not.
+//! Settling: the worked examples of queues and records that agree, and of those that do not; and what queues leave at their end.
 
 use crate::tests::sets::{Act, Records, SetReport, set_of};
 use crate::tests::shapes::Shape;
 use dest_queue::Counts;
-use locked_queues::{SettleFault, StepMaker};
+use locked_queues::{SettleFault, Settled, StepMaker};
 use relay_base::DestId;
 use std::alloc::Global;
 use std::sync::Wait;
@@ -250,9 +250,20 @@ static CASES: [Case; 13] = [
     },
 ];
 
-// Whether a set reports what the case wants.
+// Whether a set reports what the case wants, before its end and then.
 fn is_report(reported: &SetReport, case: &Case) -> bool {
-    match (&reported.settled, &case.want) {
+    is_settled_so(&reported.settled, reported, case)
+        && is_settled_so(&reported.end.settled, reported, case)
+        && reported.end.counts.len() == case.shape.dests
+}
+
+// Whether a set settles as the case wants.
+fn is_settled_so(
+    settled: &Result<Settled, SettleFault>,
+    reported: &SetReport,
+    case: &Case,
+) -> bool {
+    match (settled, &case.want) {
         (Ok(settled), Want::Settles(counts, steps)) => {
             settled.order.len() == *steps
                 && has_counted(reported, settled.counts.as_slice(), counts)
@@ -267,9 +278,11 @@ fn is_report(reported: &SetReport, case: &Case) -> bool {
     }
 }
 
-// Whether that is what the first queue has counted, by the settling too.
+// Whether that is what the first queue has counted, by the settling and at its end too.
 fn has_counted(reported: &SetReport, counts: &[Counts], want: &Counts) -> bool {
-    reported.counts == *want && counts.first() == Some(want)
+    reported.counts == *want
+        && counts.first() == Some(want)
+        && reported.end.counts.first() == Some(want)
 }
 
 // Whether a fault that has no counts is the one that the case wants.
@@ -315,4 +328,31 @@ fn settles_after_a_run(rt: HostRuntime) {
         all = all && is_wanted(&rt, rt.alloc(), case) == Some(true);
     }
     assert!(rt; all);
+}
+
+// What leaves the oldest of `a` and then nine of `d` in the first queue, whose history is sealed, and `b` and `c` in the second.
+static LEAVING: [Act; 6] = [
+    Act::Offer(0, 0, "a", 3),
+    Act::Offer(0, 1, "b", 2),
+    Act::Offer(1, 1, "c", 1),
+    Act::Take(0, 2),
+    Act::Offer(1, 0, "d", 65_536),
+    Act::Take(1, 1),
+];
+
+// Whether queues leave what each held, the oldest first, the last queue first.
+fn leaves_what_it_held<R: Wait>(rt: &R, alloc: Global) -> Option<bool> {
+    let reported = set_of(rt, alloc, TWO, &LEAVING, None)?;
+    let left = reported.end.left.as_slice();
+    let is_left = match left {
+        [second, first] => second.as_str() == "bc" && first.as_str() == "addddddddd",
+        _ => false,
+    };
+    drop(reported);
+    Some(is_left)
+}
+
+#[test]
+fn queues_leave_what_they_held(rt: HostRuntime) {
+    assert!(rt; leaves_what_it_held(&rt, rt.alloc()) == Some(true));
 }

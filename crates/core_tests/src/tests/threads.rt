@@ -187,7 +187,7 @@ struct Case {
     shape: Shape,
     todo: Work,
     offered: u64,
-    // At least this many of them are kept.
+    // At least this many of them are kept, and all others are dropped.
     kept: u64,
 }
 
@@ -233,15 +233,16 @@ fn adds_up(settled: &Result<Settled, SettleFault>, case: &Case) -> bool {
     let Ok(settled) = settled else {
         return false;
     };
-    let (mut offered, mut kept, mut taken) = (0u64, 0u64, 0u64);
+    let (mut offered, mut kept, mut dropped, mut taken) = (0u64, 0u64, 0u64, 0u64);
     for counts in &settled.counts {
         offered = offered.saturating_add(counts.offered);
         kept = kept.saturating_add(counts.kept);
+        dropped = dropped.saturating_add(counts.dropped);
         taken = taken.saturating_add(counts.taken);
     }
     offered == case.offered
         && kept >= case.kept
-        && kept <= offered
+        && kept.saturating_add(dropped) == offered
         && taken <= kept
         && settled.order.len() as u64 >= offered
 }
