@@ -146,6 +146,54 @@ class Connections(Reloads):
             self.wait_for(lambda: relay.totals() == counts | {"queued": 0, "taken": 100}, "the store took these alone")
             self.stops(relay)
 
+    def test_more_is_left_than_a_queue_holds_with_a_spool(self):
+        """The file keeps what has no room: all is still queued, nothing is dropped, and the store gets all in order."""
+        lines = numbered(250)
+        for is_back in (True, False):
+            with self.subTest(is_back):
+                port, = free_ports(1)
+                dests = [f"127.0.0.1:{port}"]
+                folder = self.path(f"spool-{is_back}")
+                os.mkdir(folder)
+                with self.running(dests, options=("--spool", folder), MAX_QUEUE_SIZE="100") as relay:
+                    for turn in range(5):
+                        relay.lines(text_of(lines[turn * 50:][:50]))
+                        counts = {"queued": 50 * (turn + 1), "offered": 50 * (turn + 1), "kept": 50 * (turn + 1),
+                                  "dropped": 0, "taken": 0}
+                        self.wait_for(lambda: relay.totals() == counts, "all lines are queued")
+                        self.reloads(relay, dests, MAX_QUEUE_SIZE="100")
+                    self.wait_for(lambda: relay.totals() == counts, "all lines are still queued")
+                    if is_back:
+                        store = Store(port)
+                        self.addCleanup(store.stop)
+                        store.start()
+                        self.wait_for(lambda: len(store.lines()) == 250, "all lines have come")
+                        self.assertEqual(store.lines(), lines)
+                        self.wait_for(lambda: relay.totals() == counts | {"queued": 0, "taken": 250}, "all are taken")
+                    self.stops(relay)
+                if is_back:
+                    self.assertEqual(os.listdir(folder), ["~lock"])
+                else:
+                    with open(os.path.join(folder, dests[0]), "rb") as file:
+                        self.assertEqual(file.read(), text_of(lines))
+
+    def test_a_store_that_reads_nothing_with_a_spool(self):
+        """It gets all once, in order, also what went to the file because there was no room."""
+        store, = self.stores(1, reads=False, room=4096)
+        dests = [f"127.0.0.1:{store.port}"]
+        folder = self.path("spool")
+        os.mkdir(folder)
+        with self.running(dests, options=("--spool", folder), MAX_QUEUE_SIZE="5000") as relay:
+            for turn in range(4):
+                relay.lines(text_of(LONG[turn * 5_000:][:5_000]))
+                self.wait_for(lambda: relay.totals()["kept"] == (turn + 1) * 5_000, "all lines are queued")
+                self.reloads(relay, dests, MAX_QUEUE_SIZE="5000")
+            store.read_on()
+            self.wait_for(lambda: len(store.lines()) == len(LONG), "all lines have come")
+            self.assertEqual(store.lines(), LONG)
+            self.assertEqual(relay.totals()["dropped"], 0)
+            self.stops(relay)
+
     def test_several_threads(self):
         """With several receivers of lines and several senders each connection and each store goes on."""
         stores = self.stores(3)

@@ -49,11 +49,17 @@ impl DestSlots {
         }
     }
 
-    /// Leaves a rest, and the socket that it goes out on, if there is one.
-    pub(crate) fn leave_rest(&self, place: usize, rest: Rest, socket: Option<KeptSocket>) {
+    /// Leaves a rest, with the later one, if there is one, and the socket that it goes out on, if there is one.
+    pub(crate) fn leave_rest(
+        &self,
+        place: usize,
+        rest: Rest,
+        later: Option<Rest>,
+        socket: Option<KeptSocket>,
+    ) {
         if let Some(slot) = self.slots.get(place) {
             if let Some(mut left) = slot.try_lock() {
-                left.put_rest(rest, socket);
+                left.put_rest(rest, later, socket);
             }
         }
     }

@@ -4,12 +4,12 @@ ghost use Rattle.std.specs.Prelude.{◌≡◌, ℕ, ◌≤◌, ◌+◌, ◌-◌,
 ghost use Rattle.dest_queue.specs.EarlierCounts.{sum};
 ghost use Rattle.line_text.specs.Print.{printed_lines};
 ghost use Rattle.handover.specs.Rest.{left_text};
-ghost use Rattle.relay_run.specs.LeftDest.{text_left};
+ghost use Rattle.relay_run.specs.LeftDest.{text_left, text_of_both};
 
 use crate::closing::closing_text;
 use crate::dest_slots::DestSlots;
 use crate::gone_dests::GoneDests;
-use crate::left_dest::LeftDest;
+use crate::left_dest::{LeftDest, counts_of};
 use crate::relay::Relay;
 use crate::shape::Shape;
 use crate::thread_records::Records;
@@ -158,11 +158,13 @@ fn add_queue(
     };
     let dropped = add_points(alloc, left, points, shape) as u64;
     let (queued, in_hand) = left.counts();
-    if let Some(earlier) = notes.earlier.get_mut(place) {
-        *earlier = without(earlier.after_run(counts), dropped);
-    }
+    let mut lost = dropped;
     if let Some(rest) = notes.rests.get(place) {
         rest.note(queued, in_hand);
+        lost = lost.saturating_add(rest.lost());
+    }
+    if let Some(earlier) = notes.earlier.get_mut(place) {
+        *earlier = without(earlier.after_run(counts), lost);
     }
     dropped
 }
@@ -181,20 +183,41 @@ fn without(counts: EarlierCounts, dropped: u64) -> EarlierCounts
 }
 
 /// Puts the datapoints of a queue behind what is left for its destination. Returns how many were dropped: those for which there
-/// was no room, or all if a sender that had ended early left nothing and there is no memory for what sends them.
+/// was no room, or all if there is no memory for what sends them.
 fn add_points(alloc: Global, left: &mut LeftDest, points: QueuedPoints, shape: &Shape) -> usize
     requires limit { (1 ≤ shape.now.limit) × (shape.now.limit ≤ LARGEST_MESSAGE) }
-    ensures text { (kept : ℕ) × (text_left left.new.rest
-        ≡ text_left left.old.rest ++ printed_lines (take kept points))
+    ensures text { (kept : ℕ) × (text_of_both left.new.rest left.new.later
+        ≡ text_of_both left.old.rest left.old.later ++ printed_lines (take kept points))
         × (length points ≡ min kept (length points) + result) }
-    // With nothing queued before, all of them go on.
-    ensures all { IfSome left.old.rest (λ rest. rest.queued ≡ []
-        → (text_left left.new.rest ≡ text_left left.old.rest ++ printed_lines points)
-        × (result ≡ 0)) }
     ensures files { left.new.files ≡ left.old.files }
     ensures socket { left.new.socket ≡ left.old.socket }
 {
-    if let Some(rest) = &mut left.rest {
+    if left.later.is_some() {
+        return add_to(alloc, &mut left.later, points, shape);
+    }
+    if left.files.is_some() && !has_room(&left.rest, points.len(), shape.size) {
+        return add_to(alloc, &mut left.later, points, shape);
+    }
+    add_to(alloc, &mut left.rest, points, shape)
+}
+
+/// Whether so many datapoints have room behind a rest, which may have this many queued.
+fn has_room(rest: &Option<Rest>, count: usize, size: usize) -> bool {
+    let (queued, _in_hand) = counts_of(rest);
+    queued == 0 || queued.saturating_add(count) <= size
+}
+
+/// Puts the datapoints of a queue behind a rest. Returns how many were dropped.
+fn add_to(alloc: Global, rest: &mut Option<Rest>, points: QueuedPoints, shape: &Shape) -> usize
+    requires limit { (1 ≤ shape.now.limit) × (shape.now.limit ≤ LARGEST_MESSAGE) }
+    ensures text { (kept : ℕ) × (text_left rest.new
+        ≡ text_left rest.old ++ printed_lines (take kept points))
+        × (length points ≡ min kept (length points) + result) }
+    // With nothing queued before, all of them go on.
+    ensures all { IfSome rest.old (λ had. had.queued ≡ []
+        → (text_left rest.new ≡ text_left rest.old ++ printed_lines points) × (result ≡ 0)) }
+{
+    if let Some(rest) = rest {
         return rest.add(points, shape.size);
     }
     let count = points.len();
@@ -202,8 +225,8 @@ fn add_points(alloc: Global, left: &mut LeftDest, points: QueuedPoints, shape: &
         return 0;
     }
     match rest_of(alloc, shape.limit, points) {
-        Ok(rest) => {
-            left.rest = Some(rest);
+        Ok(made) => {
+            *rest = Some(made);
             0
         }
         Err(NoMemory) => count,

@@ -76,7 +76,7 @@ impl GoneDests {
     pub(crate) fn add(&mut self, parting: PartingDest, left: LeftDest) {
         let PartingDest { dest, shown, until } = parting;
         let (queued, in_hand) = left.counts();
-        let rest = RestNotes::new();
+        let rest = RestNotes::new(0);
         rest.note(queued, in_hand);
         let place = self.dests.len();
         let shown = GoneDest {

@@ -10,9 +10,12 @@ use spool::DestSpool;
 
 /// What a run that has ended leaves for a destination: what its sender had in hand with what its queue held, the files, and the
 /// connection's socket. The socket goes out with the earlier file, if that is not sent yet, and otherwise with the rest.
+///
+/// What a queue held that has no room behind the rest is another rest, the later one: the first one is to go to the file.
 #[derive(Drop)]
 pub(crate) struct LeftDest {
     pub(crate) rest: Option<Rest>,
+    pub(crate) later: Option<Rest>,
     pub(crate) files: Option<DestSpool>,
     pub(crate) socket: Option<KeptSocket>,
 }
@@ -25,10 +28,11 @@ impl LeftDest {
 
     /// Only files.
     pub(crate) fn with_files(files: Option<DestSpool>) -> LeftDest
-        ensures { (result.files ≡ files) × (result.rest ≡ None) }
+        ensures { (result.files ≡ files) × (result.rest ≡ None) × (result.later ≡ None) }
     {
         LeftDest {
             rest: None,
+            later: None,
             files,
             socket: None,
         }
@@ -37,7 +41,7 @@ impl LeftDest {
     /// What is left for a destination of the next run: what was left for it if the run before knew it, otherwise its files.
     pub(crate) fn known_or_new(known: Option<LeftDest>, files: Option<DestSpool>) -> LeftDest
         ensures known { IfSome known (λ left. result ≡ left) }
-        ensures new { known ≡ None → (result.files ≡ files) × (result.rest ≡ None) }
+        ensures new { known ≡ None → (result.files ≡ files) × (result.rest ≡ None) × (result.later ≡ None) }
     {
         match known {
             Some(left) => {
@@ -48,14 +52,16 @@ impl LeftDest {
         }
     }
 
-    /// Puts a rest here, and the socket that it goes out on, if there is one.
-    pub(crate) fn put_rest(&mut self, rest: Rest, socket: Option<KeptSocket>)
+    /// Puts a rest here, with the later one, if there is one, and the socket that it goes out on, if there is one.
+    pub(crate) fn put_rest(&mut self, rest: Rest, later: Option<Rest>, socket: Option<KeptSocket>)
         ensures rest { self.new.rest ≡ Some rest }
+        ensures later { self.new.later ≡ later }
         ensures files { self.new.files ≡ self.old.files }
         ensures socket { IfSome socket (λ _. self.new.socket ≡ socket) }
         ensures no_socket { socket ≡ None → self.new.socket ≡ self.old.socket }
     {
         self.rest = Some(rest);
+        self.later = later;
         if socket.is_some() {
             self.socket = socket;
         }
@@ -64,7 +70,7 @@ impl LeftDest {
     /// Puts files here, and the socket that the earlier one goes out on, if there is one.
     pub(crate) fn put_files(&mut self, files: Option<DestSpool>, socket: Option<KeptSocket>)
         ensures files { self.new.files ≡ files }
-        ensures rest { self.new.rest ≡ self.old.rest }
+        ensures rest { (self.new.rest ≡ self.old.rest) × (self.new.later ≡ self.old.later) }
         ensures socket { IfSome socket (λ _. self.new.socket ≡ socket) }
         ensures no_socket { socket ≡ None → self.new.socket ≡ self.old.socket }
     {
@@ -76,10 +82,9 @@ impl LeftDest {
 
     /// How many datapoints wait behind the hand, and how many are in it.
     pub(crate) fn counts(&self) -> (usize, usize) {
-        match &self.rest {
-            Some(rest) => (rest.queued(), rest.in_hand()),
-            None => (0, 0),
-        }
+        let (queued, in_hand) = counts_of(&self.rest);
+        let (more, _none_in_hand) = counts_of(&self.later);
+        (queued.saturating_add(more), in_hand)
     }
 
     /// Whether no datapoint is left, and no connection.
@@ -93,6 +98,14 @@ impl LeftDest {
             Some(files) => files.is_behind(),
             None => false,
         }
+    }
+}
+
+/// How many datapoints of a rest wait behind the hand, and how many are in it.
+pub(crate) fn counts_of(rest: &Option<Rest>) -> (usize, usize) {
+    match rest {
+        Some(rest) => (rest.queued(), rest.in_hand()),
+        None => (0, 0),
     }
 }
 

@@ -37,6 +37,7 @@ mod relay;
 mod relay_jobs;
 mod reload_source;
 mod rest_connector;
+mod rest_files;
 mod run_command;
 mod running;
 mod runtime;

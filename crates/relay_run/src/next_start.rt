@@ -229,7 +229,7 @@ impl NewPlaces {
     /// The destination of the next place, which was at this one before, if it was, has this left.
     fn add(&mut self, ended: &mut EndedRun, place: usize, kept: Option<DestId>, left: LeftDest) {
         let (queued, in_hand) = left.counts();
-        let rest = RestNotes::new();
+        let rest = notes_of(ended, kept, left.is_behind_file());
         rest.note(queued, in_hand);
         self.slots.put(place, left);
         // These take no memory, since there is room.
@@ -287,6 +287,17 @@ fn events_of(ended: &mut EndedRun, kept: Option<DestId>) -> DestNotes {
     match ended.notes.dests.get_mut(place.0) {
         Some(events) => mem::replace(events, DestNotes::new()),
         None => DestNotes::new(),
+    }
+}
+
+/// What is noted of a destination's rest that was at this place, and whose file, if that is not sent yet, goes on being sent.
+fn notes_of(ended: &EndedRun, kept: Option<DestId>, is_behind_file: bool) -> RestNotes {
+    let Some(place) = kept else {
+        return RestNotes::new(0);
+    };
+    match ended.notes.rests.get(place.0) {
+        Some(rest) if is_behind_file => RestNotes::new(rest.in_file()),
+        _ => RestNotes::new(0),
     }
 }
 

@@ -8,8 +8,10 @@ ghost use Rattle.dest_writer.specs.Writer.{bytes_left};
 ghost use Rattle.handover.specs.Rest.{RestState, rest_text, left_text};
 
 use crate::dest_list::copy_list;
-use crate::left_dest::socket_of;
+use crate::left_dest::{counts_of, socket_of};
+use crate::rest_files::RestFiles;
 use crate::sender_places::Share;
+use crate::spool_left::SpooledRest;
 use dest_queue::QueuedPoints;
 use dest_writer::GatherBuf;
 use handover::{Rest, RestConnection, RestTurn};
@@ -20,13 +22,64 @@ use senders::{Connect, KeptSocket};
 use std::alloc::Global;
 use std::io::Write;
 
-/// What ended runs left for a sender's destinations: by destination, a rest, if there is one, until all of it is sent.
+/// What ended runs left for a sender's destinations, until all of it is sent.
 #[derive(Drop)]
 pub(crate) struct SenderRests<'n, W> {
-    dests: Vec<Option<RestConnection<W>>>,
+    // By destination.
+    dests: Vec<DestRests<W>>,
     // None if there is no place.
     gathered: Option<GatherBuf>,
     notes: &'n [RestNotes],
+}
+
+/// What ended runs left for a destination: a rest, if there is one, and one that had no room behind it, for which the first is to
+/// go to the file.
+#[derive(Drop)]
+struct DestRests<W> {
+    rest: Option<RestConnection<W>>,
+    later: Option<Rest>,
+    // Whether the file was not tried yet.
+    may_spool: bool,
+}
+
+impl<W: Drop> DestRests<W> {
+    /// Nothing is left.
+    fn none() -> DestRests<W> {
+        DestRests {
+            rest: None,
+            later: None,
+            may_spool: false,
+        }
+    }
+
+    /// The later rest is the first one now, if there is one, on this connection, if there is one. Returns the connection if there
+    /// is no rest.
+    fn go_on(&mut self, sink: Option<W>) -> Option<W> {
+        let Some(later) = self.later.take() else {
+            return sink;
+        };
+        let mut connection = RestConnection::new(later);
+        if let Some(sink) = sink {
+            connection.begin(sink);
+        }
+        self.rest = Some(connection);
+        None
+    }
+
+    /// Notes how much is left.
+    fn note(&self, notes: Option<&RestNotes>) {
+        let Some(notes) = notes else {
+            return;
+        };
+        let (later, _none_in_hand) = counts_of(&self.later);
+        match &self.rest {
+            Some(rest) => {
+                let rest = rest.rest();
+                notes.note(rest.queued().saturating_add(later), rest.in_hand());
+            }
+            None => notes.note(later, 0),
+        }
+    }
 }
 
 impl<'n, W: Drop> SenderRests<'n, W> {
@@ -39,7 +92,7 @@ impl<'n, W: Drop> SenderRests<'n, W> {
     ) -> Result<SenderRests<'n, W>, NoMemory> {
         let mut none = Vec::new(alloc);
         for _ in 0..dests {
-            add(&mut none, None)?;
+            add(&mut none, DestRests::none())?;
         }
         let gathered = if dests == 0 {
             None
@@ -53,8 +106,9 @@ impl<'n, W: Drop> SenderRests<'n, W> {
         })
     }
 
-    /// From now on this rest of a destination is to be sent: the connection that its writer had goes on, if it is there.
-    pub(crate) fn begin(&mut self, place: usize, rest: Rest, sink: Option<W>) {
+    /// From now on this rest of a destination is to be sent, and then the later one, if there is one: the connection that its
+    /// writer had goes on, if it is there.
+    pub(crate) fn begin(&mut self, place: usize, rest: Rest, later: Option<Rest>, sink: Option<W>) {
         let mut rest = rest;
         if sink.is_none() {
             rest.lose();
@@ -63,25 +117,32 @@ impl<'n, W: Drop> SenderRests<'n, W> {
         if let Some(sink) = sink {
             connection.go_on(sink);
         }
-        if let Some(slot) = self.dests.get_mut(place) {
-            *slot = Some(connection);
+        if let Some(dest) = self.dests.get_mut(place) {
+            *dest = DestRests {
+                rest: Some(connection),
+                may_spool: later.is_some(),
+                later,
+            };
         }
     }
 
     /// Whether nothing is left for any destination.
     fn are_over(&self) -> bool {
-        self.dests.iter().all(|rest| rest.is_none())
+        self.dests.iter().all(|dest| dest.rest.is_none())
     }
 
     /// Whether a rest is left for a destination.
     fn has_rest(&self, place: usize) -> bool {
-        matches!(self.dests.get(place), Some(Some(_)))
+        match self.dests.get(place) {
+            Some(dest) => dest.rest.is_some(),
+            None => false,
+        }
     }
 
     /// Whether a rest goes on at once.
     fn goes_on(&self) -> bool {
-        for rest in &self.dests {
-            if let Some(rest) = rest {
+        for dest in &self.dests {
+            if let Some(rest) = &dest.rest {
                 if rest.goes_on() {
                     return true;
                 }
@@ -93,7 +154,7 @@ impl<'n, W: Drop> SenderRests<'n, W> {
     /// These destinations' connections are ready.
     fn note_ready(&mut self, ready: &[DestId]) {
         for dest in ready {
-            if let Some(Some(rest)) = self.dests.get_mut(dest.0) {
+            if let Some(rest) = self.rest_mut(dest.0) {
                 rest.note_ready();
             }
         }
@@ -101,16 +162,21 @@ impl<'n, W: Drop> SenderRests<'n, W> {
 
     /// All connections are to be tried.
     fn note_all_ready(&mut self) {
-        for rest in self.dests.as_mut_slice().iter_mut() {
-            if let Some(rest) = rest {
+        for place in 0..self.dests.len() {
+            if let Some(rest) = self.rest_mut(place) {
                 rest.note_ready();
             }
         }
     }
 
+    /// The rest of a destination, if one is left.
+    fn rest_mut(&mut self, place: usize) -> Option<&mut RestConnection<W>> {
+        self.dests.get_mut(place)?.rest.as_mut()
+    }
+
     /// The connection of a destination has closed.
     fn lose(&mut self, place: usize) {
-        if let Some(Some(rest)) = self.dests.get_mut(place) {
+        if let Some(rest) = self.rest_mut(place) {
             if rest.is_open() {
                 rest.lose();
             }
@@ -120,44 +186,89 @@ impl<'n, W: Drop> SenderRests<'n, W> {
     /// Whether the rest of a destination has a connection.
     fn is_open(&self, place: usize) -> bool {
         match self.dests.get(place) {
-            Some(Some(rest)) => rest.is_open(),
+            Some(
+                DestRests {
+                    rest: Some(rest),
+                    ..
+                },
+            ) => rest.is_open(),
             _ => false,
         }
     }
 
     /// The rest of a destination has this connection, which is another than its writer had.
     fn begin_connection(&mut self, place: usize, sink: W) {
-        if let Some(Some(rest)) = self.dests.get_mut(place) {
+        if let Some(rest) = self.rest_mut(place) {
             rest.begin(sink);
         }
     }
 
-    /// Takes the rest of a destination, and its connection, if there is one.
-    fn take(&mut self, place: usize) -> Option<(Rest, Option<W>)> {
-        let connection = self.dests.get_mut(place)?.take()?;
-        Some(connection.into_parts())
+    /// Takes the rest of a destination, its connection, if there is one, and the later rest, if there is one.
+    fn take(&mut self, place: usize) -> Option<(Rest, Option<W>, Option<Rest>)> {
+        let dest = self.dests.get_mut(place)?;
+        let (rest, sink) = dest.rest.take()?.into_parts();
+        Some((rest, sink, dest.later.take()))
     }
-}
 
-impl<W: Write + Drop> SenderRests<'_, W> {
-    /// Sends some of the rest of a destination, and returns the connection once it took all of that.
-    fn send(&mut self, place: usize) -> Option<W> {
-        let Some(gathered) = &mut self.gathered else {
+    /// Takes the first rest of a destination, once, if it is to go to the file. Its connection, if there is one, is given up.
+    fn take_for_file(&mut self, place: usize) -> Option<Rest> {
+        let dest = self.dests.get_mut(place)?;
+        if !dest.may_spool {
             return None;
+        }
+        dest.may_spool = false;
+        let (mut rest, sink) = dest.rest.take()?.into_parts();
+        drop(sink);
+        rest.lose();
+        Some(rest)
+    }
+
+    /// The file of a destination keeps so many datapoints of the first rest, which had this many in hand, and has lost so many.
+    /// What it did not take is left.
+    fn put_back(&mut self, place: usize, spooled: SpooledRest, in_hand: u64) {
+        let SpooledRest {
+            left,
+            kept,
+            lost,
+            ..
+        } = spooled;
+        let Some(dest) = self.dests.get_mut(place) else {
+            drop(left);
+            return;
         };
-        match self.dests.get_mut(place) {
-            Some(slot) => send_rest(slot, gathered, self.notes.get(place)),
-            None => None,
+        match left {
+            Some(left) => dest.rest = Some(RestConnection::new(left)),
+            None => drop(dest.go_on(None)),
+        }
+        let notes = self.notes.get(place);
+        dest.note(notes);
+        if let Some(notes) = notes {
+            // Those in hand count as taken already.
+            notes.note_spooled(kept.saturating_sub(in_hand), lost.saturating_sub(in_hand));
         }
     }
 }
 
-/// Sends some of a rest, if there is one, and notes how much is left. Returns the connection once it took the whole rest, which
-/// is over then.
+impl<W: Write + Drop> SenderRests<'_, W> {
+    /// Sends some of the rest of a destination, and returns the connection once it took all of that, and of the later one.
+    fn send(&mut self, place: usize) -> Option<W> {
+        let Some(gathered) = &mut self.gathered else {
+            return None;
+        };
+        let dest = self.dests.get_mut(place)?;
+        let sink = match send_rest(&mut dest.rest, gathered) {
+            Some(sink) => dest.go_on(Some(sink)),
+            None => None,
+        };
+        dest.note(self.notes.get(place));
+        sink
+    }
+}
+
+/// Sends some of a rest, if there is one. Returns the connection once it took the whole rest, which is over then.
 fn send_rest<W: Write + Drop>(
     slot: &mut Option<RestConnection<W>>,
     gathered: &mut GatherBuf,
-    notes: Option<&RestNotes>,
 ) -> Option<W>
     ensures whole { IfSome result (λ sink. (rest : RestState W) × (had : Counting W)
         × (slot.old ≡ Some rest) × (rest.sink ≡ Some had)
@@ -169,11 +280,7 @@ fn send_rest<W: Write + Drop>(
     let Some(left) = slot else {
         return None;
     };
-    let turn = left.send(gathered);
-    if let Some(notes) = notes {
-        notes.note(left.rest().queued(), left.rest().in_hand());
-    }
-    match turn {
+    match left.send(gathered) {
         RestTurn::Over(sink) => {
             *slot = None;
             Some(sink)
@@ -199,7 +306,8 @@ fn rest_in_hand(alloc: Global, batch: LeftBatch) -> Rest
 }
 
 /// Connects through another connector. While a rest is left for a destination, it keeps the connection for itself and sends the
-/// rest, so that the destination is not connected for others before. Without rests it connects as the other connector does.
+/// rest, so that the destination is not connected for others before. Without rests it connects as the other connector does. A
+/// rest that has another one behind it goes to the file first, if there is one.
 ///
 /// When the sender ends, what is still left goes to the slots; and if another run follows, so does what the sender had in hand,
 /// with its connection.
@@ -251,20 +359,35 @@ impl<'n, N: Connect> RestConnector<'n, N> {
         Ok(&self.ready[..count])
     }
 
-    /// Leaves the rest of a destination in its slot, with the socket of its connection if another run follows.
+    /// Leaves the rests of a destination in their slot, with the socket of the connection if another run follows.
     fn leave(&mut self, place: usize) {
-        let Some((rest, sink)) = self.rests.take(place) else {
+        let Some((rest, sink, later)) = self.rests.take(place) else {
             return;
         };
         let socket = match sink {
             Some(sink) => { socket_of(&mut self.connector, self.signals, DestId(place), sink) }
             None => None,
         };
-        self.share.slots.leave_rest(place, rest, socket);
+        self.share.slots.leave_rest(place, rest, later, socket);
     }
 }
 
-impl<'n, N: Connect + Drop> Connect for RestConnector<'n, N> {
+impl<'n, N: Connect + RestFiles> RestConnector<'n, N> {
+    /// Writes the first rest of a destination to the file, once, if it is to go there.
+    fn spool_first(&mut self, dest: DestId) {
+        if !self.connector.may_spool(dest) {
+            return;
+        }
+        let Some(rest) = self.rests.take_for_file(dest.0) else {
+            return;
+        };
+        let in_hand = rest.in_hand() as u64;
+        let spooled = self.connector.spool_rest(self.alloc, dest, rest);
+        self.rests.put_back(dest.0, spooled, in_hand);
+    }
+}
+
+impl<'n, N: Connect + RestFiles + Drop> Connect for RestConnector<'n, N> {
     type Sink = N::Sink;
 
     fn wait(&mut self, millis: u64) -> Result<&[DestId], ReadinessFault> {
@@ -282,6 +405,7 @@ impl<'n, N: Connect + Drop> Connect for RestConnector<'n, N> {
         if !self.rests.has_rest(dest.0) {
             return self.connector.connect(dest, millis);
         }
+        self.spool_first(dest);
         if !self.rests.is_open(dest.0) {
             let sink = self.connector.connect(dest, millis)?;
             self.rests.begin_connection(dest.0, sink);
@@ -310,7 +434,7 @@ impl<'n, N: Connect + Drop> Connect for RestConnector<'n, N> {
             None => None,
         };
         let rest = rest_in_hand(self.alloc, batch);
-        self.share.slots.leave_rest(dest.0, rest, socket);
+        self.share.slots.leave_rest(dest.0, rest, None, socket);
     }
 
     fn take_back(&mut self, dest: DestId, sink: N::Sink) -> Option<KeptSocket> {

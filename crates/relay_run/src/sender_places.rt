@@ -71,7 +71,7 @@ impl<'n, D: SpoolDisk + Drop> SenderPlaces<'n, D> {
     }
 
     /// Has what is left for a destination sent: its connection goes on with the earlier file, if that is not sent yet, and
-    /// otherwise with the rest.
+    /// otherwise with the rest. A later rest is behind another one.
     fn take_left<R: Net + Drop, L: Lookup + Drop>(
         &mut self,
         place: usize,
@@ -82,6 +82,7 @@ impl<'n, D: SpoolDisk + Drop> SenderPlaces<'n, D> {
         let is_behind_file = left.is_behind_file();
         let LeftDest {
             rest,
+            later,
             files,
             socket,
         } = left;
@@ -96,7 +97,9 @@ impl<'n, D: SpoolDisk + Drop> SenderPlaces<'n, D> {
                 Some(sink) => Some(SpoolSink::Store(sink)),
                 None => None,
             };
-            self.rests.begin(place, rest, of_rest);
+            self.rests.begin(place, rest, later, of_rest);
+        } else {
+            drop(later);
         }
         drop(sink);
     }

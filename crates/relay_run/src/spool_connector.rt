@@ -6,7 +6,10 @@ use crate::dest_list::copy_list;
 use crate::dest_slots::DestSlots;
 use crate::end_orders::EndOrders;
 use crate::left_dest::socket_of;
+use crate::rest_files::RestFiles;
 use crate::sender_places::Share;
+use crate::spool_left::{SpooledRest, spool_rest};
+use handover::Rest;
 use mio_loops::ReadinessFault;
 use relay_base::{DestId, MOST_DESTINATIONS, NoMemory, add};
 use run_state::Signals;
@@ -358,6 +361,27 @@ impl<'n, 's, N: Connect + Drop, D: SpoolDisk + Copy + Drop> Connect
 
     fn is_quiet(&self) -> bool {
         self.connector.is_quiet()
+    }
+}
+
+impl<'n, 's, N: Connect, D: SpoolDisk + Copy + Drop> RestFiles for SpoolConnector<'n, 's, N, D> {
+    fn may_spool(&self, dest: DestId) -> bool {
+        self.may_spool && self.spool.has_file(dest.0)
+    }
+
+    fn spool_rest(&mut self, alloc: Global, dest: DestId, rest: Rest) -> SpooledRest {
+        let Some((files, sink)) = self.spool.take(dest.0) else {
+            return SpooledRest {
+                left: Some(rest),
+                kept: 0,
+                lost: 0,
+                files: None,
+            };
+        };
+        drop(sink);
+        let mut spooled = spool_rest(self.disk, alloc, rest, files, self.spool.limit);
+        self.spool.begin(dest.0, spooled.files.take(), None);
+        spooled
     }
 }
 

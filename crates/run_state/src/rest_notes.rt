@@ -2,22 +2,43 @@
 
 use std::sync::atomic::{AtomicU64, Ordering};
 
-/// How many datapoints ended runs left for a destination that no connection has taken whole. The destination's sender notes it;
-/// other threads read it at the same time.
+/// How many datapoints ended runs left for a destination that no connection has taken whole, and how many of them went to its
+/// file. The destination's sender notes it; other threads read it at the same time.
 #[derive(Drop)]
 pub struct RestNotes {
     // Those that wait behind the hand, and those in hand.
     queued: AtomicU64,
     in_hand: AtomicU64,
+    // Those that the file has, and those that it lost in this run.
+    in_file: AtomicU64,
+    lost: AtomicU64,
 }
 
 impl RestNotes {
-    /// Nothing is left.
-    pub fn new() -> RestNotes {
+    /// Nothing is left in memory, and the file has so many.
+    pub fn new(in_file: u64) -> RestNotes {
         RestNotes {
             queued: AtomicU64::new(0),
             in_hand: AtomicU64::new(0),
+            in_file: AtomicU64::new(in_file),
+            lost: AtomicU64::new(0),
         }
+    }
+
+    /// So many more went to the file, which keeps them, and so many more are lost with it.
+    pub fn note_spooled(&self, kept: u64, lost: u64) {
+        let _in_file = self.in_file.fetch_add(kept, Ordering::SeqCst);
+        let _lost = self.lost.fetch_add(lost, Ordering::SeqCst);
+    }
+
+    /// How many the file has, while that is not sent.
+    pub fn in_file(&self) -> u64 {
+        self.in_file.load(Ordering::SeqCst)
+    }
+
+    /// How many the file lost in this run.
+    pub fn lost(&self) -> u64 {
+        self.lost.load(Ordering::SeqCst)
     }
 
     /// From now on so many wait, and so many are in hand.

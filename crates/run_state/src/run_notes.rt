@@ -53,7 +53,7 @@ impl RunNotes {
     fn add_dest(&mut self) -> Result<(), NoMemory> {
         add(&mut self.dests, DestNotes::new())?;
         add(&mut self.earlier, EarlierCounts::none())?;
-        add(&mut self.rests, RestNotes::new())
+        add(&mut self.rests, RestNotes::new(0))
     }
 }
 

@@ -42,19 +42,33 @@ pub struct DestSources<'x> {
 }
 
 impl<'x> DestSources<'x> {
-    /// What the queues of a destination have counted in all runs, with what that of this run has.
+    /// What the queues of a destination have counted in all runs, with what that of this run has. What of it went to a file is
+    /// queued until that is sent; what was lost with a file is dropped, and no longer kept.
     pub fn counts_at(&self, place: usize, counts: Counts) -> Counts {
-        match self.earlier.get(place) {
-            Some(earlier) => earlier.with_rest(self.rest_at(place), counts),
-            None => counts,
-        }
+        let (Some(earlier), Some(rest)) = (self.earlier.get(place), self.rests.get(place)) else {
+            return counts;
+        };
+        let in_file = if self.is_behind(place) {
+            rest.in_file()
+        } else {
+            0
+        };
+        let earlier = EarlierCounts {
+            kept: earlier.kept.saturating_sub(rest.lost()),
+            dropped: earlier.dropped.saturating_add(rest.lost()),
+            ..*earlier
+        };
+        earlier.with_rest(rest.queued().saturating_add(in_file), counts)
     }
 
-    /// How many datapoints of ended runs wait to be taken in hand for a destination.
-    fn rest_at(&self, place: usize) -> u64 {
-        match self.rests.get(place) {
-            Some(rest) => rest.queued(),
-            None => 0,
+    /// Whether a file of a destination is not sent yet.
+    fn is_behind(&self, place: usize) -> bool {
+        let Some(end) = self.end else {
+            return false;
+        };
+        match end.spool_notes().get(place) {
+            Some(notes) => notes.is_behind(),
+            None => false,
         }
     }
 }
