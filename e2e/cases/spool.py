@@ -5,25 +5,16 @@ import ctypes
 import http.client
 import json
 import os
-import shutil
-import signal
 import subprocess
-import tempfile
 import threading
-import time
-import unittest
 
-from fixtures import sockets
 from fixtures.harness import LIMIT, Ran, run
 from fixtures.log import Log
 from fixtures.running import COMMAND_TRIES, WithRelays
+from fixtures.spooling import ALL, LONG, QUEUE, WithSpool, numbered, text_of
 from fixtures.stores import Store, free_ports
 
-ALL = "[all]\ndefault = true\ndestinations = {}\n"
 COUNT = 3_000
-# With names of this length a store that reads nothing leaves most of them in the relay.
-LONG = [b"%s.%d %d 1700000000" % (b"n" * 220, number, number) for number in range(20_000)]
-QUEUE = "100000"
 FOREVER = "3600"  # seconds: for so long no case waits
 REST = 0.05       # seconds between two reads of a slow store
 LIBC = ctypes.CDLL(None, use_errno=True)
@@ -31,83 +22,8 @@ LIBC = ctypes.CDLL(None, use_errno=True)
 CALLS = [("openat", 1), ("openat", 2), ("write", 1), ("write", 3), ("fsync", 1), ("fsync", 2), ("rename", 1), ("rename", 2)]
 
 
-def numbered(count, prefix=b"a"):
-    """This number of lines, each another."""
-    return [b"%s.%d %d 1700000000" % (prefix, number, number) for number in range(count)]
-
-
-def text_of(lines):
-    """Their text."""
-    return b"".join(line + b"\n" for line in lines)
-
-
-class Spool(WithRelays):
+class Spool(WithSpool):
     """A relay that keeps what it did not send."""
-
-    def setUp(self):
-        super().setUp()
-        self.dir = tempfile.mkdtemp()
-        self.addCleanup(subprocess.run, ["rm", "-rf", self.dir], check=True)
-
-    def path(self, name):
-        """The path of a file in the folder."""
-        return os.path.join(self.dir, name)
-
-    def held(self, name):
-        """The lines of a file in the folder."""
-        with open(self.path(name), "rb") as file:
-            text = file.read()
-        self.assertTrue(text.endswith(b"\n"), "the last line of the file is whole")
-        return text.split(b"\n")[:-1]
-
-    def write(self, name, text):
-        """Makes a file in the folder."""
-        with open(self.path(name), "wb") as file:
-            file.write(text)
-
-    def files(self):
-        """The names in the folder, but for the one that is locked."""
-        return sorted(set(os.listdir(self.dir)) - {"~lock"})
-
-    def spooling(self, dests, *options, **how):
-        """A relay with this folder."""
-        changed = {"MAX_QUEUE_SIZE": QUEUE} | how
-        return self.relay(dests, ALL.format(", ".join(dests)), options=("--spool", self.dir, *options), **changed)
-
-    def store_that_reads_nothing(self):
-        """A store that reads nothing yet and has little room, and its destination."""
-        store, = self.stores(1, reads=False, room=4096)
-        return store, f"127.0.0.1:{store.port}"
-
-    def queued(self, relay, lines, place=0):
-        """Sends lines, and waits until all were offered to a destination."""
-        before = relay.report()[place][1]["kept"]
-        relay.lines(text_of(lines))
-        self.wait_for(lambda: relay.report()[place][1]["kept"] == before + len(lines), "all lines are queued")
-
-    def begins_to_send(self, store):
-        """Waits until a store that reads nothing was sent more than there is room for."""
-        self.wait_for(store.is_connected, "the store is connected")
-        self.wait_for(lambda: sockets.unsent(store.port) > 0, "a part is sent")
-
-    def ends(self, relay, last=b"settled\n"):
-        """Stops it, and returns how long it took. Standard error is somebody else's."""
-        began = time.monotonic()
-        self.assertEqual(relay.command(b"stop"), b"stopping\n")
-        self.assertEqual(relay.child.wait(LIMIT), 0)
-        self.assertEqual(relay.child.stdout.read(), last)
-        return time.monotonic() - began
-
-    def refused(self, dests, *options, folder=None):
-        """How a relay ends that cannot be ready."""
-        *listening, admin = free_ports(4)
-        config = self.configuration(dests, listening)
-        words = ["run", *self.given({"config": config, "rules": ALL.format(", ".join(dests)), "rewrite": None})]
-        return self.run_words([*words, "--admin", str(admin), "--spool", folder or self.dir, *options])
-
-    def run_words(self, words):
-        """What `relayd` does with words."""
-        return run(words)
 
     # ---- a store that is away
 
@@ -187,7 +103,7 @@ class Spool(WithRelays):
         kept = self.held(dest)
         self.assertEqual(kept[-len(more):], more)
         self.assertEqual(kept[:-len(more)], LONG[len(LONG) + len(more) - len(kept):])
-        self.assertLess(len(kept), len(LONG) + len(more), "a part was sent")
+        self.assertGreater(self.sent_bytes(dest), 0, "a part was sent")
         store.read_on()
         with self.spooling([dest]) as relay:
             self.wait_for(lambda: store.lines() == LONG + more, "the store has all, once, in order")
@@ -207,36 +123,6 @@ class Spool(WithRelays):
             second = bytes(store.taken[-1]).split(b"\n")[:-1]
             self.assertEqual(second, LONG[len(LONG) - len(second):])
             self.settles(relay)
-
-    def test_a_file_that_is_cut_while_it_is_sent(self):
-        """The store gets whole lines of it alone: what comes later is not glued to a part of one."""
-        store, dest = self.store_that_reads_nothing()
-        self.write(dest, text_of(LONG))
-        with self.spooling([dest]) as relay:
-            self.begins_to_send(store)
-            os.truncate(self.path(dest), 1_000)
-            self.queued(relay, [b"live 1 1"])
-            store.read_on()
-            self.wait_for(lambda: b"live 1 1\n" in store.text(), "the next line has come")
-            self.settles(relay)
-        came = {line for taken in store.taken for line in bytes(taken).split(b"\n")[:-1]}
-        self.assertEqual(came - set(LONG), {b"live 1 1"})
-
-    def test_it_is_killed_while_the_file_is_sent(self):
-        """The file is as it was, and the store gets lines twice at most, never cut ones."""
-        store, dest = self.store_that_reads_nothing()
-        self.write(dest, text_of(LONG))
-        with self.spooling([dest]) as relay:
-            self.begins_to_send(store)
-            relay.child.send_signal(signal.SIGKILL)
-            relay.child.wait(LIMIT)
-        self.assertEqual(self.held(dest), LONG)
-        store.read_on()
-        with self.spooling([dest]) as relay:
-            self.wait_for(lambda: store.lines()[-1:] == LONG[-1:], "the last line has come")
-            self.settles(relay)
-        self.assertLessEqual(set(store.lines()), set(LONG))
-        self.assertEqual(bytes(store.taken[-1]), text_of(LONG))
 
     # ---- beside other options
 
@@ -388,9 +274,9 @@ class Spool(WithRelays):
             self.queued(relay, lines)
             self.wait_for(lambda: store.lines() == lines, "the other store has all")
             subprocess.run(["rm", "-rf", self.dir], check=True)
-            took = self.ends(relay)
+            took = self.ends(relay, status=3)
             log.thread.join(LIMIT)
-        self.assertEqual(log.lines[-4:], [
+        self.assertEqual(log.lines[-5:-1], [
             b"destination %s spool: cannot write\n" % dests[0].encode(),
             b"destination %s stopped, 100 datapoints not sent\n" % dests[0].encode(),
             b"relay stopped, 0 datapoints spooled\n",
@@ -469,6 +355,8 @@ class Spool(WithRelays):
         self.assertIn(f"spool: {self.path(dest)}: the last line has no end; it stays in {self.path(dest)}~aside\n".encode(),
                       log.lines)
         self.assertEqual(self.files(), [dest + "~aside"])
+        with open(self.path(dest + "~aside"), "rb") as file:
+            self.assertEqual(file.read(), b"c 3")
 
     def test_what_is_put_aside_replaces_nothing(self):
         """The second one has a number behind its name."""
@@ -554,17 +442,6 @@ class Spool(WithRelays):
         files = self.given({"config": config, "rules": ALL.format(dest), "rewrite": None})
         noted = run(["check", *files, "--longest-name", "1024", "--explain", "--spool", self.dir])
         self.assertIn(f"relayd: note: spool: {dest}: too long a name for a file, so nothing of it is kept\n".encode(), noted.err)
-
-    def test_a_directory_in_the_place_of_a_file(self):
-        """It is put aside, and the relay does its work."""
-        store, = self.stores(1)
-        dest = f"127.0.0.1:{store.port}"
-        os.mkdir(self.path(dest))
-        with self.spooling([dest]) as relay:
-            relay.lines(b"a 1 1\n")
-            self.wait_for(lambda: store.lines() == [b"a 1 1"], "the line has come")
-            self.settles(relay)
-        self.assertEqual(self.files(), [dest + "~aside"])
 
 
     @unittest.skipUnless(shutil.which("strace"), "strace is not there")

@@ -1,5 +1,5 @@
 //! Where in a text its sending stands.
-ghost use Rattle.std.specs.Prelude.{◌≡◌, ℕ, ◌+◌, ◌^◌, ◌<◌, List, [], ◌∷◌, ◌++◌, length};
+ghost use Rattle.std.specs.Prelude.{◌≡◌, ℕ, ◌+◌, ◌^◌, ◌<◌, List, [], ◌∷◌, ◌++◌, length, flat_map};
 ghost use Rattle.backlog.specs.Lines.{whole_lines};
 ghost use Rattle.backlog.specs.Place.{place_after};
 
@@ -30,6 +30,17 @@ impl Cursor {
         ensures { result ≡ place_after [] [] }
     {
         Cursor { start: 0, next: 0 }
+    }
+
+    /// Connections that are over took whole lines up to this place.
+    pub fn at(place: u64) -> Cursor
+        ensures { (over : List (List ℕ)) → place ≡ length (flat_map whole_lines over)
+            → result ≡ place_after over [] }
+    {
+        Cursor {
+            start: place,
+            next: place,
+        }
     }
 
     /// Where the first line begins that no connection took to its end.

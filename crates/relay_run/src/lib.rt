@@ -61,4 +61,4 @@ pub use options::{RunOptions, StatusOptions};
 pub use reload_source::{RefusedReload, ReloadSource};
 pub use run_command::run;
 pub use runtime::{RelayRuntime, SystemTables};
-pub use spool_folder::SpoolFolder;
+pub use spool_folder::{SpoolFault, SpoolFolder};

@@ -14,7 +14,7 @@ use locked_queues::{BlankTotals, EndRoom, MOST_RECEIVERS, Set};
 use queue_records::READERS_EACH;
 use relay_base::{DestId, MOST_DESTINATIONS, NoMemory, add};
 use relay_files::{RelayFault, RunConfiguration};
-use spool::{SpoolDisk, SpoolFiles};
+use spool::{OpenFault, SpoolDisk, SpoolFiles};
 use std::alloc::Global;
 
 /// A run that is to follow the one that runs, and room for what that leaves.
@@ -71,10 +71,13 @@ pub(crate) fn prepared_by<B: Set, R: SpoolDisk>(
             return Err(refused_for(alloc, fault));
         }
     };
-    let Ok(made) = made_ready(rt, alloc, relay, &configuration, folder) else {
-        drop(configuration);
-        drop(receivers);
-        return Err(RefusedReload::no_memory(alloc));
+    let made = match made_ready(rt, alloc, relay, &configuration, folder) {
+        Ok(made) => made,
+        Err(fault) => {
+            drop(configuration);
+            drop(receivers);
+            return Err(refused_for_file(alloc, fault));
+        }
     };
     let MadeReady {
         places,
@@ -137,7 +140,7 @@ fn made_ready<B: Set, R: SpoolDisk>(
     relay: &Relay<B>,
     configuration: &RunConfiguration,
     folder: Option<SpoolFolder<'_>>,
-) -> Result<MadeReady<B>, NoMemory> {
+) -> Result<MadeReady<B>, OpenFault> {
     let settings = configuration.settings();
     try_queues(alloc, settings, relay.shape.receivers)?;
     let line = reload_line(alloc, &relay.configuration, configuration)?;
@@ -170,7 +173,7 @@ fn new_files<R: SpoolDisk>(
     dests: &[Dest],
     places: &KeptPlaces,
     folder: Option<SpoolFolder<'_>>,
-) -> Result<SpoolFiles, NoMemory> {
+) -> Result<SpoolFiles, OpenFault> {
     let known = known_places(alloc, places)?;
     let files = open_new_files(rt, alloc, dests, known.as_slice(), folder);
     drop(known);
@@ -231,6 +234,18 @@ fn refused_for(alloc: Global, fault: RelayFault) -> RefusedReload {
     match fault {
         RelayFault::NoMemory => RefusedReload::no_memory(alloc),
         fault => refused(alloc, Refusal::Device, format!(in alloc; "{fault}\n")),
+    }
+}
+
+/// The refusal of a file of the spool that cannot be used.
+fn refused_for_file(alloc: Global, fault: OpenFault) -> RefusedReload {
+    match fault {
+        OpenFault::NoMemory => RefusedReload::no_memory(alloc),
+        OpenFault::File(file) => {
+            let text = format!(in alloc; "spool: {file}\n");
+            drop(file);
+            refused(alloc, Refusal::Device, text)
+        }
     }
 }
 

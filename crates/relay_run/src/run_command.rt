@@ -30,7 +30,7 @@ use crate::relay::{NAME, OpenRelay, Parts, Relay};
 use crate::reload_source::ReloadSource;
 use crate::running::run_until_ended;
 use crate::runtime::RelayRuntime;
-use crate::spool_folder::SpoolFolder;
+use crate::spool_folder::{SpoolFolder, put_failures};
 use crate::spool_left::spool_slots;
 use crate::start::{Process, Start};
 use crate::thread_records::{Records, RunLeft};
@@ -274,7 +274,15 @@ fn run_relay<
     };
     match next {
         Some(next) => follow(rt, alloc, relay, left, next, ports, process, number),
-        None => stop(alloc, relay, left, ports, output, recorder),
+        None => {
+            put_failures(
+                alloc,
+                process.folder,
+                relay.noted().dests,
+                relay.state.spool_notes(),
+            );
+            stop(alloc, relay, left, ports, output, recorder)
+        }
     }
 }
 

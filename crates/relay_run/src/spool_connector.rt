@@ -265,11 +265,15 @@ impl<'n, W: Write + Drop> SenderSpool<'n, W> {
     /// Sends some of the earlier file of a destination to its connection, which is returned once all is sent.
     fn send<D: SpoolDisk>(&mut self, disk: &D, place: usize) -> Option<W> {
         let state = self.dests.get_mut(place)?;
-        let (sink, is_whole) = state.send(disk, &mut self.piece)?;
-        if let Some(notes) = self.notes.get(place) {
-            notes.note_sent(is_whole);
+        let notes = self.notes.get(place);
+        let given = state.send(disk, &mut self.piece, notes);
+        if let (Some(notes), false) = (notes, state.is_behind()) {
+            notes.note_sent(matches!(given, Some((_, true))));
         }
-        Some(sink)
+        match given {
+            Some((sink, _)) => Some(sink),
+            None => None,
+        }
     }
 
     /// The files of a destination, once: they are its last connection. The connection that its file went to is given up.
@@ -297,14 +301,19 @@ impl<W: Write + Drop> SpooledDest<W> {
     }
 
     /// Sends some of the earlier file to the connection, which is returned once no more is sent, with whether all was.
-    fn send<D: SpoolDisk>(&mut self, disk: &D, piece: &mut [u8]) -> Option<(W, bool)> {
+    fn send<D: SpoolDisk>(
+        &mut self,
+        disk: &D,
+        piece: &mut [u8],
+        notes: Option<&SpoolNotes>,
+    ) -> Option<(W, bool)> {
         let Some(spool) = &mut self.spool else {
             return None;
         };
-        match spool.send(disk, &mut self.connection, piece) {
+        match spool.send(disk, &mut self.connection, piece, notes) {
             Turn::Over(sink) => Some((sink, true)),
-            Turn::GivenUp(sink) => Some((sink, false)),
-            Turn::Lost | Turn::Kept => None,
+            Turn::GivenUp { sink, .. } => Some((sink, false)),
+            Turn::Broken { .. } | Turn::Lost | Turn::Kept => None,
         }
     }
 }

@@ -11,9 +11,9 @@ use crate::shape::{Shape, shape_of};
 use crate::spool_folder::{SpoolFolder, open_files};
 use conf_text::Settings;
 use locked_queues::BlankTotals;
-use relay_base::NoMemory;
 use relay_files::{RelayFault, RunConfiguration};
 use senders::HostThreads;
+use spool::OpenFault;
 use std::alloc::Global;
 use std::time::Instant;
 
@@ -83,11 +83,27 @@ impl Start {
                 blank,
                 inherited,
             }),
-            Err(_) => {
+            Err(fault) => {
                 drop(configuration);
                 drop(ports);
-                Err(RelayFault::NoMemory)
+                Err(put_fault(process.folder, fault))
             }
+        }
+    }
+}
+
+/// The fault of a start, where the files of the folder have this one: the folder says which file.
+fn put_fault(folder: Option<SpoolFolder<'_>>, fault: OpenFault) -> RelayFault
+    ensures { is_start_fault result ≡ true }
+{
+    match (folder, fault) {
+        (Some(folder), OpenFault::File(text)) => {
+            folder.fault.put(text);
+            RelayFault::Output
+        }
+        (_, fault) => {
+            drop(fault);
+            RelayFault::NoMemory
         }
     }
 }
@@ -99,14 +115,14 @@ fn begin_with<R: RelayRuntime>(
     settings: &Settings,
     shape: &Shape,
     process: &Process<'_>,
-) -> Result<(Inherited, BlankTotals), NoMemory> {
+) -> Result<(Inherited, BlankTotals), OpenFault> {
     let files = open_files(rt, alloc, settings.destinations(), process.folder)?;
     let inherited = Inherited::first(alloc, shape, files)?;
     match BlankTotals::new(alloc) {
         Ok(blank) => Ok((inherited, blank)),
         Err(fault) => {
             drop(inherited);
-            Err(fault)
+            Err(OpenFault::from(fault))
         }
     }
 }

@@ -5,7 +5,7 @@ ghost use Rattle.std.specs.Prelude.{◌≡◌, ◌<◌, length};
 use crate::dest_rest::{DestRest, RestOfAll};
 use crate::gone_dest::GoneDest;
 use crate::late_news::LateNews;
-use crate::log_writes::{write_dest_end, write_gone_end, write_line};
+use crate::log_writes::{write_dest_end, write_gone_end, write_line, write_text};
 use crate::receiver_log::ReceiverLog;
 use conf_text::Dest;
 use locked_queues::{MOST_SENDERS, Queues, Set};
@@ -36,6 +36,8 @@ struct ReportedDest {
     lookup: LoggedLookup,
     // Whether an earlier file was reported as sent.
     is_sent: bool,
+    // Whether what is to be said of that file was.
+    has_news: bool,
 }
 
 /// What a log that has ended leaves to that of the next run: its output, and what it has reported of the receivers.
@@ -95,6 +97,7 @@ fn reported_of(alloc: Global, noted: DestSources<'_>) -> Result<Vec<ReportedDest
             dest: logged_at(noted, place),
             lookup: LoggedLookup::new(),
             is_sent: false,
+            has_news: false,
         };
         add(&mut reported, dest)?;
     }
@@ -119,6 +122,7 @@ impl<'x, B: Set, L: Write + Drop> LogJob<'x, B, L> {
             }
             pause(rt, signals);
             self.look_at_all(rt, alloc, signals, times.millis());
+            self.write_file_news();
             self.write_sent(alloc, signals);
             self.write_others(rt, alloc);
         }
@@ -151,6 +155,7 @@ impl<'x, B: Set, L: Write + Drop> LogJob<'x, B, L> {
         for receiver in self.receivers.as_mut_slice().iter_mut() {
             write_line(&mut self.output, receiver.lines(alloc, millis));
         }
+        self.write_file_news();
         self.write_others(rt, alloc);
     }
 
@@ -197,6 +202,22 @@ impl<'x, B: Set, L: Write + Drop> LogJob<'x, B, L> {
         Ok(line)
     }
 
+    /// Writes what is to be said of the files of an earlier run, of each once.
+    fn write_file_news(&mut self) {
+        let Some(end) = self.noted.end else {
+            return;
+        };
+        let spool_notes = end.spool_notes();
+        for (place, reported) in self.reported.as_mut_slice().iter_mut().enumerate() {
+            if let (Some(notes), false) = (spool_notes.get(place), reported.has_news) {
+                if let Some(news) = notes.news() {
+                    reported.has_news = true;
+                    write_text(&mut self.output, news);
+                }
+            }
+        }
+    }
+
     /// Writes which destinations have been sent the files of an earlier run, each once.
     fn write_sent(&mut self, alloc: Global, signals: &Signals) {
         let Some(end) = self.noted.end else {
@@ -240,6 +261,7 @@ impl<'x, B: Set, L: Write + Drop> LogJob<'x, B, L> {
         for receiver in self.receivers.as_slice() {
             write_line(&mut self.output, receiver.last_lines(alloc));
         }
+        self.write_file_news();
         self.write_others(rt, alloc);
         if let Some(end) = self.noted.end {
             self.write_unsent(rt, alloc, signals, end);

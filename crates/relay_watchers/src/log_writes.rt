@@ -9,9 +9,14 @@ use std::io::Write;
 /// Writes a line, if any.
 pub(crate) fn write_line<L: Write>(output: &mut L, line: Result<String, AllocError>) {
     if let Ok(line) = line {
-        // A log that cannot be written holds up nothing.
-        let _ = output.write_all(line.as_str().as_bytes());
+        write_text(output, line.as_str());
     }
+}
+
+/// Writes a line.
+pub(crate) fn write_text<L: Write>(output: &mut L, line: &str) {
+    // A log that cannot be written holds up nothing.
+    let _ = output.write_all(line.as_bytes());
 }
 
 /// Writes what ends for a destination, if anything does.

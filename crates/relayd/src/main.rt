@@ -40,7 +40,7 @@ use relay_watchers::SystemFacts;
 use reload_files::RelayFiles;
 use senders::Resolve;
 use spool::SpoolDisk;
-use spool_folder::own_folder;
+use spool_folder::{end_with_fault, own_folder};
 use std::alloc::Global;
 use std::io::BufWriter;
 use std::net::{Net, TcpListener, TcpStream};
@@ -158,7 +158,7 @@ where
                 Ok(recorder) => recorder,
                 Err(status) => return Ok(status),
             };
-            let status = relay_run::run(
+            let ended = relay_run::run(
                 threads,
                 alloc,
                 &mut sources_at(rt, alloc, paths)?,
@@ -168,7 +168,8 @@ where
                 recorder,
                 folder,
                 &files,
-            )?;
+            );
+            let status = end_with_fault(rt, &own, ended)?;
             Ok(match status {
                 Status::Done => recorded,
                 other => other,

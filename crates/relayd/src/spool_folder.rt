@@ -3,18 +3,15 @@
 use crate::file_limit::{ErrorRoom, file_limit};
 use conf_text::Dest;
 use relay_base::NoMemory;
-use relay_files::Status;
-use relay_run::SpoolFolder;
+use relay_files::{RelayFault, Status};
+use relay_run::{SpoolFault, SpoolFolder};
 use spool::{LOCK, SpoolDisk, TRIAL, fits_name, is_of_no_destination};
 use std::alloc::Global;
-use std::fs::{File, OpenOptions, TryLockError};
+use std::fs::{File, TryLockError};
 use std::io::{ErrorKind, Write};
-use std::os::unix::fs::OpenOptionsExt;
+use std::os::unix::fs::MetadataExt;
 use std::time::Duration;
 use std::{fs, io, thread};
-
-/// The permissions of the file that is locked: its owner reads and writes it.
-const OWNER_ALONE: u32 = 0o600;
 
 /// How often a folder that is in use is tried again, and after how many milliseconds each time: a relay that ends has its
 /// folder for a moment after `stop --wait`.
@@ -29,17 +26,41 @@ const LONGEST_LINE: usize = 4_200;
 #[derive(Drop)]
 pub struct OwnFolder<'a> {
     path: &'a str,
+    owner: Option<u32>,
     limit: Option<u64>,
+    fault: SpoolFault,
     _lock: File,
 }
 
-impl<'a> OwnFolder<'a> {
+impl OwnFolder<'_> {
     /// The folder, for a run.
-    pub fn folder(&self) -> SpoolFolder<'a> {
+    pub fn folder(&self) -> SpoolFolder<'_> {
         SpoolFolder {
             path: self.path,
+            owner: self.owner,
             limit: self.limit,
+            fault: &self.fault,
         }
+    }
+}
+
+/// How a run ends that ended so, and had this folder, if it had one: what failed there is said on standard error, and the status
+/// is that of a device then.
+pub fn end_with_fault(
+    rt: &HostRuntime,
+    own: &Option<OwnFolder<'_>>,
+    ended: Result<Status, RelayFault>,
+) -> Result<Status, RelayFault> {
+    let Some(own) = own else {
+        return ended;
+    };
+    let Some(text) = own.fault.text() else {
+        return ended;
+    };
+    say(rt, text);
+    match ended {
+        Ok(Status::Done) | Err(RelayFault::Output) => Ok(Status::DeviceFault),
+        ended => ended,
     }
 }
 
@@ -48,6 +69,7 @@ impl<'a> OwnFolder<'a> {
 enum FolderFault {
     CannotWrite,
     InUse,
+    NoFile,
 }
 
 /// The folder at a path, if one is given. Refuses, with a line on standard error, one that another relay uses or that takes no
@@ -70,32 +92,37 @@ pub fn own_folder<'a>(
     };
     match locked(rt, lock.as_str()) {
         Ok(file) => {
-            try_to_write(rt, path, trial.as_str())?;
+            let owner = try_to_write(rt, path, trial.as_str())?;
             Ok(Some(OwnFolder {
                 path,
+                owner,
                 limit: file_limit(rt),
+                fault: SpoolFault::none(),
                 _lock: file,
             }))
         }
         Err(FolderFault::InUse) => {
-            say(rt, path, "another relay uses it");
+            say_of(rt, path, "another relay uses it");
             Err(Status::DeviceFault)
         }
         Err(FolderFault::CannotWrite) => {
-            say(rt, path, "cannot write");
+            say_of(rt, path, "cannot write");
+            Err(Status::DeviceFault)
+        }
+        Err(FolderFault::NoFile) => {
+            say_of(rt, lock.as_str(), "no regular file");
             Err(Status::DeviceFault)
         }
     }
 }
 
-/// Opens and locks a file. Tries for a second if another relay has it.
+/// Opens and locks a file. Tries for a second if another relay has it. Refuses what is no regular file.
 fn locked(rt: &HostRuntime, path: &str) -> Result<File, FolderFault> {
-    let opened = OpenOptions::new()
-        .write(true)
-        .create(true)
-        .mode(OWNER_ALONE)
-        .open(rt, path);
-    let Ok(file) = opened else {
+    match rt.look_at(path) {
+        Ok(there) if !there.is_file() => return Err(FolderFault::NoFile),
+        _ => {}
+    }
+    let Ok(file) = rt.open_records(path) else {
         return Err(FolderFault::CannotWrite);
     };
     for _ in 0..TRIES {
@@ -108,25 +135,29 @@ fn locked(rt: &HostRuntime, path: &str) -> Result<File, FolderFault> {
     Err(FolderFault::InUse)
 }
 
-/// Writes a file, and removes it again. Refuses, with a line on standard error, if it cannot; but not if only room is lacking.
-fn try_to_write(rt: &HostRuntime, path: &str, trial: &str) -> Result<(), Status> {
-    let written = write_trial(rt, trial);
+/// Writes a file, and removes it again. Returns whose files those of this relay are, if the system says it. Refuses, with a line on
+/// standard error, if it cannot; but not if only room is lacking.
+fn try_to_write(rt: &HostRuntime, path: &str, trial: &str) -> Result<Option<u32>, Status> {
+    let mut owner = None;
+    let _ = fs::remove_file(rt, trial);
+    let written = write_trial(rt, trial, &mut owner);
     let is_removed = fs::remove_file(rt, trial).is_ok();
     match written {
-        Ok(()) if is_removed => Ok(()),
+        Ok(()) if is_removed => Ok(owner),
         Err(error) if is_lack_of_room(&error) => {
-            say(rt, path, "no room");
-            Ok(())
+            say_of(rt, path, "no room");
+            Ok(owner)
         }
         _ => {
-            say(rt, path, "cannot write");
+            say_of(rt, path, "cannot write");
             Err(Status::DeviceFault)
         }
     }
 }
 
-fn write_trial(rt: &HostRuntime, trial: &str) -> io::Result<()> {
+fn write_trial(rt: &HostRuntime, trial: &str, owner: &mut Option<u32>) -> io::Result<()> {
     let mut file = rt.make_new(trial)?;
+    *owner = Some(file.metadata()?.uid());
     file.write_all(b"\n")?;
     file.sync_all()
 }
@@ -138,10 +169,17 @@ fn is_lack_of_room(error: &io::Error) -> bool {
     )
 }
 
-/// Writes a line about the folder on standard error, if it has room there.
-fn say(rt: &HostRuntime, path: &str, text: &str) {
+/// Writes a line about a path on standard error, if it has room there.
+fn say_of(rt: &HostRuntime, path: &str, text: &str) {
     if rt.error_has_room(file_limit(rt), LONGEST_LINE) {
         let _ = eprintln!(rt; "relayd: spool: {path}: {text}");
+    }
+}
+
+/// Writes a line on standard error, if it has room there.
+fn say(rt: &HostRuntime, text: &str) {
+    if rt.error_has_room(file_limit(rt), LONGEST_LINE) {
+        let _ = eprintln!(rt; "relayd: spool: {text}");
     }
 }
 

@@ -9,5 +9,5 @@ IfOver _ is = Unit {0}
 
 -- of the connection, if the file is given up
 abbrev pub IfGivenUp : {W : Type 0} → Turn W → (W → Type 0) → Type 0
-IfGivenUp (GivenUp sink) is = is sink
+IfGivenUp (GivenUp sink code) is = is sink
 IfGivenUp _ is = Unit {0}

@@ -1,24 +1,22 @@
-//! What an earlier file still holds is written to a new one.
+//! A part of a file is written to another one.
 
 ghost use Rattle.std.specs.Prelude.{◌≡◌, OnOk, IfSome};
 ghost use Rattle.std.specs.Io.KnownBytes.{Appends};
 ghost use Rattle.spool.specs.Held.{left_of};
 
 use crate::held_text::HeldText;
-use crate::spool_notes::SpoolNotes;
 use std::io;
 use std::io::{ErrorKind, Write};
 
 /// How many bytes are copied at once.
 const PIECE: usize = 16_384;
 
-/// Writes the bytes of a file from `start` up to `end` to an output, and notes how many.
+/// Writes the bytes of a file from `start` up to `end` to an output.
 pub fn copy_part<F: HeldText, W: Write>(
     file: &F,
     start: u64,
     end: u64,
     output: &mut W,
-    notes: Option<&SpoolNotes>,
 ) -> io::Result<()>
     ensures ok { OnOk result (IfSome (F.text file.now) (λ held.
         Appends (W.contents output.old) (W.contents output.new) (left_of held start end))) }
@@ -32,15 +30,7 @@ pub fn copy_part<F: HeldText, W: Write>(
             return Err(io::Error::from(ErrorKind::UnexpectedEof));
         }
         output.write_all(&piece[..count])?;
-        note_copied(notes, count);
         next += count as u64;
     }
     Ok(())
-}
-
-/// Notes this many bytes.
-fn note_copied(notes: Option<&SpoolNotes>, count: usize) {
-    if let Some(notes) = notes {
-        notes.note_taken(count as u64, 0);
-    }
 }

@@ -2,346 +2,570 @@
 
 use crate::copy::copy_part;
 use crate::file_connection::FileConnection;
-use crate::file_names::{FileNames, is_free};
+use crate::file_names::FileNames;
+use crate::found_file::{FileFault, FoundFile, found_at, is_there};
+use crate::held_file::{HeldFile, SentPart};
 use crate::held_text::end_of_lines;
 use crate::limited_file::LimitedFile;
+use crate::open_folder::{OpenFault, OpenFolder};
 use crate::spool_disk::SpoolDisk;
 use crate::spool_notes::SpoolNotes;
 use crate::turn::Turn;
-use backlog::Cursor;
 use conf_text::Dest;
 use relay_base::NoMemory;
 use std::alloc::{AllocError, Global};
-use std::fmt::Write as _;
 use std::fs::File;
-use std::io;
 use std::io::{ErrorKind, Write};
+use std::{io, mem};
+
+/// How many bytes are looked at together when a file goes on.
+const LOOK: usize = 4_096;
 
 /// The files of a destination: the one that an earlier run left, while it holds lines that are not sent, and their names.
 #[derive(Drop)]
 pub struct DestSpool {
     names: FileNames,
+    owner: Option<u32>,
     held: Option<HeldFile>,
-    // Whether the file has something behind its whole lines, and so is put aside and not removed.
-    has_begun_line: bool,
-}
-
-/// A file that holds lines: where these end, and how far they are sent.
-#[derive(Drop)]
-struct HeldFile {
-    file: File,
-    end: u64,
-    cursor: Cursor,
-}
-
-/// What is there under the name of a destination's file.
-#[derive(Drop)]
-enum FoundFile {
-    /// Nothing.
-    Nothing,
-    /// A file of this length that has these whole lines.
-    Lines { held: HeldFile, length: u64 },
-    /// What has no whole line: such a file, or what is none.
-    NoLines,
-    /// What the system does not let the relay read now.
-    Unreadable(io::Error),
+    // Which part is sent of the file that takes what is not sent.
+    sent: SentPart,
 }
 
 impl DestSpool {
-    /// The files of a destination in a folder, and what an earlier run left there. What was read and has no whole line is put
-    /// aside; the news say so, and when behind the last whole line something is left, and when a file cannot be read. Refuses if
-    /// out of memory.
-    pub fn open<D: SpoolDisk>(
+    /// The files of a destination in a folder, and what an earlier run left there. A file that was read and has no whole line is
+    /// put aside, and so is what is behind the last whole line of another; the news say so. Refuses what is there and cannot be
+    /// used, and if out of memory.
+    pub(crate) fn open<D: SpoolDisk>(
         disk: &D,
         alloc: Global,
-        folder: &str,
+        folder: &mut OpenFolder<'_>,
         dest: &Dest,
-        piece: &mut [u8],
-        news: &mut String,
-    ) -> Result<DestSpool, NoMemory> {
-        let names = FileNames::new(alloc, folder, dest)?;
-        match found_at(disk, names.held(), piece) {
-            FoundFile::Nothing => Ok(DestSpool::with_held(names, None, false)),
-            FoundFile::Lines { held, length } => {
-                let has_begun_line = held.end < length;
-                if has_begun_line {
-                    tell_begun_line(news, &names)?;
-                }
-                Ok(DestSpool::with_held(names, Some(held), has_begun_line))
-            }
-            FoundFile::NoLines => {
-                tell_no_lines(news, &names, move_aside(disk, &names, names.held()))?;
-                Ok(DestSpool::with_held(names, None, false))
-            }
-            FoundFile::Unreadable(error) => {
-                let told = tell_unreadable(news, &names, &error);
-                drop(error);
-                told?;
-                // A new file puts it aside, if it is still there then.
-                Ok(DestSpool::with_held(names, None, true))
-            }
-        }
-    }
-
-    fn with_held(names: FileNames, held: Option<HeldFile>, has_begun_line: bool) -> DestSpool {
-        DestSpool {
+    ) -> Result<DestSpool, OpenFault> {
+        let names = FileNames::new(alloc, folder.at.path, dest)?;
+        let mut spool = DestSpool {
             names,
-            held,
-            has_begun_line,
+            owner: folder.at.owner,
+            held: None,
+            sent: SentPart::none(),
+        };
+        match spool.find_held(disk, folder) {
+            Ok(()) => Ok(spool),
+            Err(fault) => {
+                drop(spool);
+                Err(fault)
+            }
         }
     }
 
-    /// Whether an earlier file holds lines that are not sent.
+    /// Finds what an earlier run left: the file, or, if there is none, what an earlier version was writing.
+    fn find_held<D: SpoolDisk>(
+        &mut self,
+        disk: &D,
+        folder: &mut OpenFolder<'_>,
+    ) -> Result<(), OpenFault> {
+        let is_new_there = self.look_at_new(disk, folder)?;
+        let found = folder.found_at(disk, self.names.held(), self.owner)?;
+        self.held = self.usable(disk, folder, found)?;
+        if self.held.is_none() {
+            folder.forget(self.names.name());
+            if is_new_there && self.give_new_its_name(disk) {
+                let found = folder.found_at(disk, self.names.held(), self.owner)?;
+                self.held = self.usable(disk, folder, found)?;
+            }
+        }
+        Ok(())
+    }
+
+    /// Whether there is what an earlier version was writing, with whole lines. The news say so. What has none is put aside.
+    fn look_at_new<D: SpoolDisk>(
+        &self,
+        disk: &D,
+        folder: &mut OpenFolder<'_>,
+    ) -> Result<bool, OpenFault> {
+        match folder.found_at(disk, self.names.new_file(), self.owner)? {
+            FoundFile::Nothing => Ok(false),
+            FoundFile::Lines { file, .. } => {
+                drop(file);
+                folder.tell_left_new(&self.names)?;
+                Ok(true)
+            }
+            FoundFile::NoLines { length } => {
+                self.put_aside(disk, folder, self.names.new_file(), length)?;
+                Ok(false)
+            }
+        }
+    }
+
+    /// What was found, if it holds lines that were not sent. One that was sent whole is removed, one without lines put aside.
+    fn usable<D: SpoolDisk>(
+        &self,
+        disk: &D,
+        folder: &mut OpenFolder<'_>,
+        found: FoundFile,
+    ) -> Result<Option<HeldFile>, OpenFault> {
+        match found {
+            FoundFile::Nothing => Ok(None),
+            FoundFile::NoLines { length } => {
+                self.put_aside(disk, folder, self.names.held(), length)?;
+                Ok(None)
+            }
+            FoundFile::Lines { file, end, length } => {
+                let mut held = HeldFile::new(file, end, SentPart::none());
+                match self.prepare(disk, folder, &mut held, length) {
+                    Ok(true) => Ok(Some(held)),
+                    Ok(false) => {
+                        self.remove_sent(disk, &held);
+                        drop(held);
+                        Ok(None)
+                    }
+                    Err(fault) => {
+                        drop(held);
+                        Err(OpenFault::from(fault))
+                    }
+                }
+            }
+        }
+    }
+
+    /// Lets a file of this length go on where its sending was, with nothing behind its whole lines. Returns whether lines are left.
+    fn prepare<D: SpoolDisk>(
+        &self,
+        disk: &D,
+        folder: &mut OpenFolder<'_>,
+        held: &mut HeldFile,
+        length: u64,
+    ) -> Result<bool, AllocError> {
+        folder.go_on(held, &self.names)?;
+        if length > held.end() {
+            self.cut(disk, folder, held, length)?;
+        }
+        Ok(!held.is_sent() || held.has_begun_line())
+    }
+
+    /// Removes the file, of which all is sent.
+    fn remove_sent<D: SpoolDisk>(&self, disk: &D, held: &HeldFile) {
+        // The record of one that cannot go says that it is sent.
+        if disk.remove(self.names.held()).is_ok() {
+            held.free();
+        }
+    }
+
+    /// Puts aside what is behind the whole lines of a file of this length. If that cannot be, the whole file is put aside once
+    /// these are sent.
+    fn cut<D: SpoolDisk>(
+        &self,
+        disk: &D,
+        folder: &mut OpenFolder<'_>,
+        held: &mut HeldFile,
+        length: u64,
+    ) -> Result<(), AllocError> {
+        match self.put_end_aside(disk, held.file(), held.end(), length) {
+            Ok(aside) => {
+                let told = folder.tell_begun_line(&self.names, aside.as_str());
+                drop(aside);
+                told
+            }
+            Err(error) => {
+                drop(error);
+                held.note_begun_line();
+                Ok(())
+            }
+        }
+    }
+
+    /// Puts a file of this length aside that has no whole line. An empty one is removed.
+    fn put_aside<D: SpoolDisk>(
+        &self,
+        disk: &D,
+        folder: &mut OpenFolder<'_>,
+        path: &str,
+        length: u64,
+    ) -> Result<(), OpenFault> {
+        if length == 0 {
+            let _ = disk.remove(path);
+            return Ok(());
+        }
+        match self.move_aside(disk, path) {
+            Ok(aside) => {
+                let told = folder.tell_no_lines(path, aside.as_str());
+                drop(aside);
+                match told {
+                    Ok(()) => Ok(()),
+                    Err(fault) => Err(OpenFault::from(fault)),
+                }
+            }
+            Err(error) => Err(folder.fault(path, FileFault::System(error))),
+        }
+    }
+
+    /// Gives a file a free name. Returns that.
+    fn move_aside<D: SpoolDisk>(&self, disk: &D, path: &str) -> io::Result<String> {
+        let aside = self.names.free_aside(disk)?;
+        match disk.give_name(path, aside.as_str()) {
+            Ok(()) => Ok(aside),
+            Err(error) => {
+                drop(aside);
+                Err(error)
+            }
+        }
+    }
+
+    /// Writes what is behind the whole lines of a file to one with a free name, and once that is on the disk cuts it off.
+    fn put_end_aside<D: SpoolDisk>(
+        &self,
+        disk: &D,
+        file: &File,
+        end: u64,
+        length: u64,
+    ) -> io::Result<String> {
+        let aside = self.names.free_aside(disk)?;
+        match move_end(disk, file, end, length, aside.as_str()) {
+            Ok(()) => Ok(aside),
+            Err(error) => {
+                drop(aside);
+                Err(error)
+            }
+        }
+    }
+
+    /// Gives what an earlier version was writing the name of the file, which is not there any more. Returns whether it could.
+    fn give_new_its_name<D: SpoolDisk>(&self, disk: &D) -> bool {
+        match disk.look_at(self.names.held()) {
+            Ok(_) => false,
+            Err(error) => {
+                let is_free = error.kind() == ErrorKind::NotFound;
+                drop(error);
+                is_free
+                    && disk
+                        .give_name(self.names.new_file(), self.names.held())
+                        .is_ok()
+            }
+        }
+    }
+
+    /// Whether an earlier file holds lines that are to be sent.
     pub fn is_behind(&self) -> bool {
-        self.held.is_some()
+        match &self.held {
+            Some(held) => !held.has_failed(),
+            None => false,
+        }
     }
 
     /// The connection that the file goes out on is gone, if there is one: what it did not take whole goes to the next one.
     pub fn lose<W: Write + Drop>(&mut self, connection: &mut FileConnection<W>) {
         if let Some(held) = &mut self.held {
-            connection.lose(&mut held.cursor);
+            connection.lose(held.cursor_mut());
         }
     }
 
     /// The connection that the file went out on is gone, with whoever had it: what it did not take whole goes to the next one.
+    /// A file that could not be read is tried again.
     pub fn reconnect(&mut self) {
         if let Some(held) = &mut self.held {
-            held.cursor.reconnect();
+            held.reconnect();
         }
     }
 
-    /// Sends some of the earlier file to its connection. Once that took the last whole line, the file goes.
+    /// Sends some of the earlier file to its connection. Once that took the last whole line, the file goes. One that cannot be
+    /// read stays, and the notes say so.
     pub fn send<D: SpoolDisk, W: Write + Drop>(
         &mut self,
         disk: &D,
         connection: &mut FileConnection<W>,
         piece: &mut [u8],
+        notes: Option<&SpoolNotes>,
     ) -> Turn<W> {
-        let Some(held) = &mut self.held else {
+        if !connection.goes_on() {
             return Turn::Kept;
+        }
+        if self.is_taken_away(disk) {
+            return self.leave_taken_away(connection, notes);
+        }
+        let turn = match &mut self.held {
+            Some(held) => held.send(connection, piece),
+            None => Turn::Kept,
         };
-        let turn = connection.send(&held.file, held.end, &mut held.cursor, piece);
-        match &turn {
-            Turn::Over(_) => self.end_held(disk),
-            Turn::GivenUp(_) => {
-                self.has_begun_line = true;
+        self.note_unread(&turn, notes);
+        self.end_turn(disk, connection, turn)
+    }
+
+    /// Ends a turn: a file goes of which all is sent, and a connection that is lost.
+    fn end_turn<D: SpoolDisk, W: Write + Drop>(
+        &mut self,
+        disk: &D,
+        connection: &mut FileConnection<W>,
+        turn: Turn<W>,
+    ) -> Turn<W> {
+        match turn {
+            Turn::Over(sink) => {
                 self.end_held(disk);
+                self.end_or_go_on(disk, connection, sink)
             }
-            Turn::Lost => self.lose(connection),
-            Turn::Kept => {}
-        }
-        turn
-    }
-
-    /// The earlier file goes: it is removed, or put aside if something of it was not sent.
-    fn end_held<D: SpoolDisk>(&mut self, disk: &D) {
-        self.held = None;
-        // One that cannot go is sent again after the next start.
-        if self.has_begun_line {
-            let _ = move_aside(disk, &self.names, self.names.held());
-        } else {
-            let _ = disk.remove(self.names.held());
+            Turn::GivenUp { sink, code } => Turn::GivenUp { sink, code },
+            Turn::Broken { code } => {
+                self.lose(connection);
+                Turn::Broken { code }
+            }
+            Turn::Lost => {
+                self.lose(connection);
+                Turn::Lost
+            }
+            Turn::Kept => Turn::Kept,
         }
     }
 
-    /// Whether the earlier file has lines that a connection took, so that what it still holds is to be written anew.
-    pub(crate) fn is_partly_sent(&self) -> bool {
+    /// Whether somebody removed the earlier file, or put another one there.
+    fn is_taken_away<D: SpoolDisk>(&self, disk: &D) -> bool {
         match &self.held {
-            Some(held) => held.cursor.start() > 0,
+            Some(held) => !is_there(disk, self.names.held(), held.file()),
             None => false,
         }
     }
 
-    /// Begins a new file with what the earlier one still holds.
+    /// Nothing more is sent of the earlier file, which somebody took away.
+    fn leave_taken_away<W: Write + Drop>(
+        &mut self,
+        connection: &mut FileConnection<W>,
+        notes: Option<&SpoolNotes>,
+    ) -> Turn<W> {
+        let Some(held) = self.held.take() else {
+            return Turn::Kept;
+        };
+        note_news(notes, self.names.taken_away_news(held.next()));
+        let sink = held.end_connection(connection);
+        held.free();
+        drop(held);
+        match sink {
+            Some(sink) => Turn::GivenUp { sink, code: 0 },
+            None => Turn::Lost,
+        }
+    }
+
+    /// Notes that the earlier file cannot be read where it is to go on, if a turn says so. If its connection is given out, nothing
+    /// more of it is sent in this run.
+    fn note_unread<W>(&mut self, turn: &Turn<W>, notes: Option<&SpoolNotes>) {
+        let (code, is_given_up) = match turn {
+            Turn::GivenUp { code, .. } => (*code, true),
+            Turn::Broken { code } => (*code, false),
+            _ => return,
+        };
+        if let Some(held) = &mut self.held {
+            note_news(notes, self.names.unread_news(held.next(), code));
+            if is_given_up {
+                held.note_failed();
+            }
+        }
+    }
+
+    /// The earlier file goes, since all its lines are sent: it is removed, or put aside if it has something behind these.
+    fn end_held<D: SpoolDisk>(&mut self, disk: &D) {
+        let Some(held) = self.held.take() else {
+            return;
+        };
+        if held.has_begun_line() {
+            if let Ok(aside) = self.move_aside(disk, self.names.held()) {
+                drop(aside);
+                held.free();
+            }
+        } else {
+            self.remove_sent(disk, &held);
+        }
+        drop(held);
+    }
+
+    /// Goes on with what an earlier version was writing, if that is there, and otherwise gives the connection out.
+    fn end_or_go_on<D: SpoolDisk, W: Write + Drop>(
+        &mut self,
+        disk: &D,
+        connection: &mut FileConnection<W>,
+        sink: W,
+    ) -> Turn<W> {
+        if self.give_new_its_name(disk) {
+            self.held = self.found_again(disk);
+        }
+        if self.held.is_none() {
+            return Turn::Over(sink);
+        }
+        connection.keep(sink);
+        Turn::Kept
+    }
+
+    /// The file, if it is there with whole lines.
+    fn found_again<D: SpoolDisk>(&self, disk: &D) -> Option<HeldFile> {
+        let mut piece = [0; LOOK];
+        match found_at(disk, self.names.held(), self.owner, &mut piece) {
+            Ok(FoundFile::Lines { file, end, length }) => {
+                let mut held = HeldFile::new(file, end, SentPart::none());
+                if length > end {
+                    held.note_begun_line();
+                }
+                Some(held)
+            }
+            found => {
+                drop(found);
+                None
+            }
+        }
+    }
+
+    /// The file that takes what is not sent, from now on: the earlier one, behind its lines, or a new one.
     pub(crate) fn begin_new<D: SpoolDisk>(
+        &mut self,
+        disk: &D,
+        limit: Option<u64>,
+    ) -> io::Result<LimitedFile<File>> {
+        if let Some(held) = self.held.take() {
+            let (file, end, sent) = held.into_parts();
+            if is_there(disk, self.names.held(), &file) {
+                self.sent = sent;
+                return self.go_on_behind(disk, file, end, limit);
+            }
+            drop((file, sent));
+        }
+        match disk.make_new(self.names.held()) {
+            Ok(file) => Ok(LimitedFile::new(file, 0, limit)),
+            Err(error) => {
+                let is_taken = error.kind() == ErrorKind::AlreadyExists;
+                if !is_taken {
+                    return Err(error);
+                }
+                drop(error);
+                self.go_on_at(disk, limit)
+            }
+        }
+    }
+
+    /// The file that somebody has put there takes what is not sent, behind its lines.
+    fn go_on_at<D: SpoolDisk>(
         &self,
         disk: &D,
         limit: Option<u64>,
-        notes: Option<&SpoolNotes>,
     ) -> io::Result<LimitedFile<File>> {
-        if !is_free(disk, self.names.new_file()) {
-            drop(move_aside(disk, &self.names, self.names.new_file())?);
+        let mut piece = [0; LOOK];
+        match found_at(disk, self.names.held(), self.owner, &mut piece) {
+            Ok(FoundFile::Lines { file, end, .. }) => self.go_on_behind(disk, file, end, limit),
+            Ok(FoundFile::NoLines { .. }) => {
+                drop(self.move_aside(disk, self.names.held())?);
+                let file = disk.make_new(self.names.held())?;
+                Ok(LimitedFile::new(file, 0, limit))
+            }
+            Ok(FoundFile::Nothing) => Err(io::Error::from(ErrorKind::AlreadyExists)),
+            Err(FileFault::System(error)) => Err(error),
+            Err(fault) => {
+                drop(fault);
+                Err(io::Error::from(ErrorKind::AlreadyExists))
+            }
         }
-        let mut new = LimitedFile::new(disk.make_new(self.names.new_file())?, limit);
-        if let Some(held) = &self.held {
-            let start = held.cursor.start();
-            copy_part(&held.file, start, held.end, &mut new, notes)?;
-        }
-        Ok(new)
     }
 
-    /// Ends a new file: it is on the disk whole, and is the earlier one from now on.
+    /// A file whose whole lines end there, or before if somebody has cut it, takes what is not sent behind these.
+    fn go_on_behind<D: SpoolDisk>(
+        &self,
+        disk: &D,
+        file: File,
+        end: u64,
+        limit: Option<u64>,
+    ) -> io::Result<LimitedFile<File>> {
+        match self.end_for_more(disk, &file, end) {
+            Ok(end) => Ok(LimitedFile::new(file, end, limit)),
+            Err(error) => {
+                drop(file);
+                Err(error)
+            }
+        }
+    }
+
+    /// Where the whole lines of a file end, once nothing is behind these.
+    fn end_for_more<D: SpoolDisk>(&self, disk: &D, file: &File, end: u64) -> io::Result<u64> {
+        let length = file.metadata()?.len();
+        let mut piece = [0; LOOK];
+        let end = if length < end {
+            end_of_lines(file, length, &mut piece)?
+        } else {
+            end
+        };
+        if length > end {
+            drop(self.put_end_aside(disk, file, end, length)?);
+        }
+        Ok(end)
+    }
+
+    /// Ends the file that took what was not sent: it has whole lines, they are on the disk, and the file is there. It is the one
+    /// that holds lines from now on.
     pub(crate) fn end_new<D: SpoolDisk>(
         &mut self,
         disk: &D,
         new: LimitedFile<File>,
     ) -> io::Result<()> {
-        let (end, is_whole) = (new.whole(), new.is_whole());
+        let (end, is_whole) = (new.end(), new.is_whole());
         let file = new.into_file();
+        let sent = mem::replace(&mut self.sent, SentPart::none());
+        if end == 0 {
+            drop((file, sent));
+            return disk.remove(self.names.held());
+        }
+        match self.end_file(disk, &file, end, is_whole) {
+            Ok(()) => {
+                self.held = Some(HeldFile::new(file, end, sent));
+                Ok(())
+            }
+            Err(error) => {
+                drop((file, sent));
+                Err(error)
+            }
+        }
+    }
+
+    /// Waits until the lines of a file, which end there, are on the disk, and the file is known to be there.
+    fn end_file<D: SpoolDisk>(
+        &self,
+        disk: &D,
+        file: &File,
+        end: u64,
+        is_whole: bool,
+    ) -> io::Result<()> {
         if !is_whole {
             file.set_len(end)?;
         }
         file.sync_all()?;
-        if self.has_begun_line {
-            let _ = move_aside(disk, &self.names, self.names.held());
+        if !is_there(disk, self.names.held(), file) {
+            return Err(io::Error::from(ErrorKind::NotFound));
         }
-        disk.give_name(self.names.new_file(), self.names.held())?;
         // The lines are in the file, whether the system answers for its name or not.
         let _ = disk.sync_folder(self.names.folder());
-        self.hold(file, end);
         Ok(())
     }
-
-    /// From now on this file, whose whole lines end there and at its own end, is the one that holds lines, if it has some.
-    fn hold(&mut self, file: File, end: u64) {
-        self.has_begun_line = false;
-        self.held = if end == 0 {
-            None
-        } else {
-            Some(HeldFile {
-                file,
-                end,
-                cursor: Cursor::new(),
-            })
-        };
-    }
-
-    /// The new file goes.
-    pub(crate) fn cancel_new<D: SpoolDisk>(&self, disk: &D) {
-        let _ = disk.remove(self.names.new_file());
-    }
 }
 
-/// What is there at a path. It opens regular files alone: a link is not followed, and a FIFO not waited for.
-fn found_at<D: SpoolDisk>(disk: &D, path: &str, piece: &mut [u8]) -> FoundFile {
-    match disk.look_at(path) {
-        Ok(named) if named.is_file() => match lines_at(disk, path, piece) {
-            Ok(found) => found,
-            Err(error) => FoundFile::Unreadable(error),
-        },
-        Ok(_) => FoundFile::NoLines,
-        Err(error) => match error.kind() {
-            ErrorKind::NotFound | ErrorKind::InvalidFilename => {
-                drop(error);
-                FoundFile::Nothing
-            }
-            _ => FoundFile::Unreadable(error),
-        },
-    }
-}
-
-/// The lines of the file at a path.
-fn lines_at<D: SpoolDisk>(disk: &D, path: &str, piece: &mut [u8]) -> io::Result<FoundFile> {
-    let file = disk.open_held(path)?;
-    let length = file.metadata()?.len();
-    let end = end_of_lines(&file, length, piece)?;
-    if end == 0 {
-        drop(file);
-        return Ok(FoundFile::NoLines);
-    }
-    Ok(FoundFile::Lines {
-        held: HeldFile {
-            file,
-            end,
-            cursor: Cursor::new(),
-        },
-        length,
-    })
-}
-
-/// Gives a file a free name. Returns that.
-fn move_aside<D: SpoolDisk>(disk: &D, names: &FileNames, path: &str) -> io::Result<String> {
-    let aside = names.free_aside(disk)?;
-    match disk.give_name(path, aside.as_str()) {
-        Ok(()) => Ok(aside),
+/// Copies what is behind the whole lines of a file to a new one, and cuts it off there.
+fn move_end<D: SpoolDisk>(
+    disk: &D,
+    file: &File,
+    end: u64,
+    length: u64,
+    path: &str,
+) -> io::Result<()> {
+    let copied = copy_to(disk.make_new(path)?, file, end, length);
+    match copied {
+        Ok(()) => file.set_len(end),
         Err(error) => {
-            drop(aside);
+            let _ = disk.remove(path);
             Err(error)
         }
     }
 }
 
-/// Keeps the new file that a stop left which was killed, if there is one: it is the file of the destination, if there is none, and
-/// is put aside otherwise. The news say so. No relay is writing it.
-pub(crate) fn take_left_new<D: SpoolDisk>(
-    disk: &D,
-    names: &FileNames,
-    news: &mut String,
-) -> Result<(), AllocError> {
-    let (new, held) = (names.new_file(), names.held());
-    if disk.look_at(new).is_err() {
-        return Ok(());
-    }
-    if is_free(disk, held) {
-        return match disk.give_name(new, held) {
-            Ok(()) => write!(
-                news,
-                "spool: {new}: a relay was killed while it wrote this; it is {held} now\n"
-            ),
-            Err(error) => tell_not_renamed(news, new, error),
-        };
-    }
-    match move_aside(disk, names, new) {
-        Ok(aside) => {
-            let told = write!(
-                news,
-                "spool: {new}: a relay was killed while it wrote this; it is {aside} now, with lines of {held}\n"
-            );
-            drop(aside);
-            told
-        }
-        Err(error) => tell_not_renamed(news, new, error),
-    }
+/// Copies a part of a file to another one, and waits until that is on the disk.
+fn copy_to(to: File, file: &File, start: u64, end: u64) -> io::Result<()> {
+    let mut to = to;
+    copy_part(file, start, end, &mut to)?;
+    to.sync_all()
 }
 
-/// The news of a new file of a killed relay that keeps its name.
-fn tell_not_renamed(news: &mut String, new: &str, error: io::Error) -> Result<(), AllocError> {
-    let told = write!(
-        news,
-        "spool: {new}: a relay was killed while it wrote this; cannot rename it: {error}\n"
-    );
-    drop(error);
-    told
-}
-
-/// The news of a file with something behind its whole lines.
-fn tell_begun_line(news: &mut String, names: &FileNames) -> Result<(), AllocError> {
-    let held = names.held();
-    write!(
-        news,
-        "spool: {held}: the last line has no end; it stays in {held}~aside\n"
-    )
-}
-
-/// The news of what has no whole line, and was put aside under this name, if it could be.
-fn tell_no_lines(
-    news: &mut String,
-    names: &FileNames,
-    aside: io::Result<String>,
-) -> Result<(), AllocError> {
-    let held = names.held();
-    match aside {
-        Ok(aside) => {
-            let told = write!(news, "spool: {held}: no lines; it is {aside} now\n");
-            drop(aside);
-            told
-        }
-        Err(error) => {
-            drop(error);
-            write!(news, "spool: {held}: no lines\n")
-        }
+/// Notes news, if there was memory for them.
+fn note_news(notes: Option<&SpoolNotes>, news: Result<String, NoMemory>) {
+    match (notes, news) {
+        (Some(notes), Ok(news)) => notes.note_news(news),
+        (_, news) => drop(news),
     }
-}
-
-/// The news of a file that cannot be read.
-fn tell_unreadable(
-    news: &mut String,
-    names: &FileNames,
-    error: &io::Error,
-) -> Result<(), AllocError> {
-    let held = names.held();
-    write!(
-        news,
-        "spool: {held}: cannot read: {error}; it stays for the next start\n"
-    )
 }

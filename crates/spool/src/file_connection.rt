@@ -138,12 +138,12 @@ impl<W: Write + Drop> FileConnection<W> {
         let mut sink = sink;
         match send_lines(file, end, cursor, &mut sink, piece) {
             SendOutcome::All => Turn::Over(sink),
-            SendOutcome::Unreadable => {
-                if is_between_lines(cursor) {
-                    return Turn::GivenUp(sink);
-                }
+            SendOutcome::Unreadable { code } if cursor.start() == cursor.next() => {
+                Turn::GivenUp { sink, code }
+            }
+            SendOutcome::Unreadable { code } => {
                 self.sink = Some(sink);
-                Turn::Lost
+                Turn::Broken { code }
             }
             SendOutcome::Lost => {
                 self.sink = Some(sink);
@@ -160,11 +160,4 @@ impl<W: Write + Drop> FileConnection<W> {
             }
         }
     }
-}
-
-/// Whether what a connection took so far of a text are whole lines.
-fn is_between_lines(cursor: &Cursor) -> bool
-    ensures { IsTrue result ↔ cursor.now.start ≡ cursor.now.next }
-{
-    cursor.start() == cursor.next()
 }

@@ -7,13 +7,14 @@ use std::alloc::Global;
 use std::io;
 use std::io::ErrorKind;
 
-/// The file of a folder that the relay locks that uses it. No destination's name has its sign `~`.
+/// The file of a folder that the relay locks that uses it. It notes there how far files were sent. No destination's name has
+/// its sign `~`.
 pub const LOCK: &str = "~lock";
 
 /// The file by which a start finds out whether it can write in a folder.
 pub const TRIAL: &str = "~trial";
 
-/// What is behind a destination's name in that of a file that is not whole yet.
+/// What is behind a destination's name in that of a file that an earlier version was writing.
 const NEW: &str = "~new";
 
 /// What is behind it in that of a file that is put aside.
@@ -31,12 +32,13 @@ pub fn fits_name(alloc: Global, dest: &Dest) -> Result<bool, NoMemory> {
     Ok(name.len() <= LONGEST_NAME)
 }
 
-/// The paths of a destination's files in a folder: that of the file that holds its lines, as DESTINATIONS names it; that of
-/// one which is written; and those under which a file is put aside.
+/// The paths of a destination's files in a folder: that of the file that holds its lines, as DESTINATIONS names it, and that of
+/// one which an earlier version was writing.
 #[derive(Drop)]
 pub struct FileNames {
     alloc: Global,
     folder: String,
+    name: String,
     held: String,
     new: String,
 }
@@ -47,6 +49,7 @@ impl FileNames {
         Ok(FileNames {
             alloc,
             folder: String::from_str(alloc, folder)?,
+            name: format!(in alloc; "{dest}")?,
             held: format!(in alloc; "{folder}/{dest}")?,
             new: format!(in alloc; "{folder}/{dest}{NEW}")?,
         })
@@ -57,12 +60,17 @@ impl FileNames {
         self.folder.as_str()
     }
 
+    /// The name in the folder of the file that holds lines.
+    pub fn name(&self) -> &str {
+        self.name.as_str()
+    }
+
     /// The file that holds lines.
     pub fn held(&self) -> &str {
         self.held.as_str()
     }
 
-    /// The file that is written.
+    /// The file that an earlier version was writing.
     pub fn new_file(&self) -> &str {
         self.new.as_str()
     }
@@ -88,10 +96,34 @@ impl FileNames {
             Ok(format!(in alloc; "{held}{ASIDE}.{number}")?)
         }
     }
+
+    /// The news of a file that cannot be read from a place on, by this error of the system, or that ends there, if it is 0.
+    pub(crate) fn unread_news(&self, place: u64, code: i32) -> Result<String, NoMemory> {
+        let (alloc, held) = (self.alloc, self.held());
+        if code == 0 {
+            return Ok(format!(in alloc;
+                "spool: {held}: it ends at byte {place}, where it had more lines; it stays\n"
+            )?);
+        }
+        let error = io::Error::from_raw_os_error(code);
+        let news = format!(in alloc;
+            "spool: {held}: cannot read at byte {place}: {error}; it stays, and the next run tries again\n"
+        );
+        drop(error);
+        Ok(news?)
+    }
+
+    /// The news of a file that is not there any more, whose sending was at this place.
+    pub(crate) fn taken_away_news(&self, place: u64) -> Result<String, NoMemory> {
+        let (alloc, held) = (self.alloc, self.held());
+        Ok(format!(in alloc;
+            "spool: {held}: somebody took it away; nothing of it is sent from byte {place} on\n"
+        )?)
+    }
 }
 
 /// Whether nothing is there at a path.
-pub(crate) fn is_free<D: SpoolDisk>(disk: &D, path: &str) -> bool {
+fn is_free<D: SpoolDisk>(disk: &D, path: &str) -> bool {
     match disk.look_at(path) {
         Ok(_) => false,
         Err(error) => error.kind() == ErrorKind::NotFound,

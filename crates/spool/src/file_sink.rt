@@ -1,4 +1,4 @@
-//! The last connection of a destination: its new file.
+//! The last connection of a destination: its file.
 
 ghost use Rattle.std.specs.Prelude.{◌≡◌, ◌==◌, count_by, take, MatchResult};
 ghost use Rattle.std.specs.Io.{WritesAtMost};
@@ -15,9 +15,8 @@ use std::fs::File;
 use std::io;
 use std::io::{ErrorKind, Write};
 
-/// The last connection of a destination: what it takes goes into a new file, behind what the earlier one still holds. With its
-/// end the new file takes the place of the earlier one. There is no new file if nothing is written and the earlier one is as
-/// it was.
+/// The last connection of a destination: what it takes goes into its file, behind the lines that the file of an earlier run
+/// holds, or into a new one. Nothing is opened or made if nothing is written.
 pub struct FileSink<'n, D: SpoolDisk + Drop> {
     disk: D,
     spool: DestSpool,
@@ -26,7 +25,7 @@ pub struct FileSink<'n, D: SpoolDisk + Drop> {
     stage: Stage,
 }
 
-/// How far the new file is.
+/// How far the file is.
 #[derive(Drop)]
 enum Stage {
     /// It is not begun.
@@ -58,24 +57,23 @@ impl<'n, D: SpoolDisk + Drop> FileSink<'n, D> {
     }
 }
 
-/// Begins a new file, unless it is begun.
+/// Begins with the file, unless it is begun.
 fn begin<D: SpoolDisk>(
     stage: &mut Stage,
     disk: &D,
-    spool: &DestSpool,
+    spool: &mut DestSpool,
     limit: Option<u64>,
     notes: Option<&SpoolNotes>,
 ) {
     if !matches!(stage, Stage::Idle) {
         return;
     }
-    *stage = match spool.begin_new(disk, limit, notes) {
+    *stage = match spool.begin_new(disk, limit) {
         Ok(new) => Stage::Open(new),
         Err(error) => {
             if let Some(notes) = notes {
                 notes.note_failed(&error);
             }
-            spool.cancel_new(disk);
             drop(error);
             Stage::Failed
         }
@@ -87,7 +85,7 @@ impl<D: SpoolDisk + Drop> Write for FileSink<'_, D> {
         begin(
             &mut self.stage,
             &self.disk,
-            &self.spool,
+            &mut self.spool,
             self.limit,
             self.notes,
         );
@@ -103,37 +101,40 @@ impl<D: SpoolDisk + Drop> Write for FileSink<'_, D> {
 }
 
 impl<D: SpoolDisk + Drop> FileSink<'_, D> {
-    /// Ends the connection, as its drop does, and gives the files back: the new one, if there is one, is the earlier one now.
+    /// Ends the connection, as its drop does, and gives the files back: the one that was written is the earlier one now.
     pub fn end(self) -> DestSpool {
         let FileSink {
             disk,
             spool,
-            limit,
+            limit: _limit,
             notes,
             stage,
         } = self;
-        ended(disk, spool, limit, notes, stage)
+        ended(disk, spool, notes, stage)
     }
 }
 
 impl<D: SpoolDisk + Drop> Drop for FileSink<'_, D> {
     fn drop(self) {
-        drop(self.end());
+        let FileSink {
+            disk,
+            spool,
+            limit: _limit,
+            notes,
+            stage,
+        } = self;
+        drop(ended(disk, spool, notes, stage));
     }
 }
 
-/// Ends the new file, which is begun before if the earlier one was partly sent, and gives the files back.
+/// Ends the file, if it is begun, and gives the files back.
 fn ended<D: SpoolDisk + Drop>(
     disk: D,
     spool: DestSpool,
-    limit: Option<u64>,
     notes: Option<&SpoolNotes>,
     stage: Stage,
 ) -> DestSpool {
-    let (mut spool, mut stage) = (spool, stage);
-    if spool.is_partly_sent() {
-        begin(&mut stage, &disk, &spool, limit, notes);
-    }
+    let mut spool = spool;
     if let Stage::Open(new) = stage {
         end_file(&disk, &mut spool, notes, new);
     }
@@ -141,7 +142,7 @@ fn ended<D: SpoolDisk + Drop>(
     spool
 }
 
-/// Writes to a new file, and notes what it took.
+/// Writes to a file, and notes what it took.
 fn write_noted<W: Write>(
     new: &mut LimitedFile<W>,
     notes: Option<&SpoolNotes>,
@@ -175,7 +176,7 @@ fn note_write(notes: &SpoolNotes, answer: &io::Result<usize>, bytes: &[u8]) {
     }
 }
 
-/// Ends a new file, which goes if it cannot be on the disk whole.
+/// Ends the file. If it cannot be on the disk, what it took is not kept.
 fn end_file<D: SpoolDisk>(
     disk: &D,
     spool: &mut DestSpool,
@@ -187,7 +188,6 @@ fn end_file<D: SpoolDisk>(
         if let Some(notes) = notes {
             notes.note_lost(&error);
         }
-        spool.cancel_new(disk);
         drop(error);
     }
 }

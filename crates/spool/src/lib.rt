@@ -1,9 +1,9 @@
 //! The files in which a relay keeps what it did not send, one for each destination, until it starts again.
 //!
-//! At a start [`DestSpool::open`] looks for a destination's file. While it holds lines, [`DestSpool::send`] sends them to the
-//! destination's [`FileConnection`], a piece at a time, from the first line that no connection took to its end, and gives
-//! that out with the last. At a stop a [`FileSink`] takes the place of the connection: what is written to it goes into a new
-//! file, behind what the earlier one still holds, which takes the file's name once it is whole and on the disk.
+//! At a start [`open_all`] looks for the destinations' files. While one holds lines, [`DestSpool::send`] sends them to the
+//! destination's [`FileConnection`], a piece at a time, from the first line that no connection took to its end, notes in
+//! [`LOCK`] how far it is sent, and gives the connection out with the last line. At a stop a [`FileSink`] takes the place of
+//! the connection: what is written to it goes into the file, behind the lines that this holds.
 //!
 //! The threads reach the disk by [`SpoolDisk`]. `specs/Held.antt` says what is read of a file, and what connections take of
 //! it.
@@ -14,9 +14,13 @@ mod dest_spool;
 mod file_connection;
 mod file_names;
 mod file_sink;
+mod found_file;
+mod held_file;
 mod held_text;
 mod limited_file;
+mod open_folder;
 mod pieces;
+mod sent_table;
 mod spool_disk;
 mod spool_files;
 mod spool_notes;
@@ -27,6 +31,7 @@ pub use file_connection::FileConnection;
 pub use file_names::{FileNames, LOCK, TRIAL, fits_name};
 pub use file_sink::FileSink;
 pub use held_text::{HeldText, end_of_lines};
+pub use open_folder::{FolderAt, OpenFault};
 pub use pieces::{SendOutcome, send_piece};
 pub use spool_disk::SpoolDisk;
 pub use spool_files::{SpoolFiles, is_of_no_destination, open_all, open_others};

@@ -1,6 +1,6 @@
 //! A file that is written.
 
-ghost use Rattle.std.specs.Prelude.{◌≡◌, ◌↔◌, [], length, take, IfOk, IsTrue, MatchResult};
+ghost use Rattle.std.specs.Prelude.{◌≡◌, ◌+◌, ◌-◌, ◌^◌, ◌<◌, ◌↔◌, [], length, min, take, IfOk, IsTrue, MatchResult};
 ghost use Rattle.std.specs.Io.{WritesAtMost};
 ghost use Rattle.std.specs.Io.KnownBytes.{WriteAppends};
 ghost use Rattle.backlog.specs.Place.{place_after};
@@ -10,35 +10,40 @@ use backlog::Cursor;
 use std::io;
 use std::io::{ErrorKind, Write};
 
-/// A file that is written from its beginning. It refuses what would make it larger than the system's limit for the size of a
-/// file, where the system would end the process for it, and knows where the last whole line ends.
+/// A file that is written from a place on, behind whole lines. It refuses what would make it larger than the system's limit for
+/// the size of a file, where the system would end the process for it, and knows where the last whole line ends.
 #[derive(Drop)]
 pub struct LimitedFile<W> {
     file: W,
+    // How many bytes it had.
+    base: u64,
     limit: Option<u64>,
-    // Where the last line ends that was written whole, and where all that was written ends.
+    // Where the last line ends that was written whole, and where all that was written ends, from the base on.
     written: Cursor,
 }
 
 impl<W: Write> LimitedFile<W> {
-    /// A file that has nothing yet, with this limit, if there is one.
-    pub fn new(file: W, limit: Option<u64>) -> LimitedFile<W>
+    /// A file that has so many bytes of whole lines, with this limit, if there is one.
+    pub fn new(file: W, base: u64, limit: Option<u64>) -> LimitedFile<W>
         ensures file { result.file ≡ file }
+        ensures base { result.base ≡ base }
         ensures limit { result.limit ≡ limit }
         ensures written { result.written ≡ place_after [] [] }
     {
         LimitedFile {
             file,
+            base,
             limit,
             written: Cursor::new(),
         }
     }
 
     /// Where the last whole line ends.
-    pub fn whole(&self) -> u64
-        ensures { result ≡ self.now.written.start }
+    pub fn end(&self) -> u64
+        ensures { self.now.base + self.now.written.start < 2 ^ 64
+            → result ≡ self.now.base + self.now.written.start }
     {
-        self.written.start()
+        self.base.saturating_add(self.written.start())
     }
 
     /// Whether what was written ends with a whole line, or is nothing.
@@ -54,6 +59,7 @@ impl<W: Write> LimitedFile<W> {
     {
         let LimitedFile {
             file,
+            base: _,
             limit: _,
             written: _,
         } = self;
@@ -72,10 +78,12 @@ impl<W: Write> Write for LimitedFile<W> {
             (λ count. MovesPast self.old.written self.new.written (take count buf.now))
             (λ _. self.new.written ≡ self.old.written) }
         ensures room { IfOk result (λ _.
-            HasRoom self.old.limit self.old.written.next (length buf.now)) }
-        ensures limit { self.new.limit ≡ self.old.limit }
+            HasRoom self.old.limit (min (self.old.base + self.old.written.next) (2 ^ 64 - 1))
+            (length buf.now)) }
+        ensures limit { (self.new.limit ≡ self.old.limit) × (self.new.base ≡ self.old.base) }
     {
-        if !has_room(self.limit, self.written.next(), buf.len()) {
+        let size = self.base.saturating_add(self.written.next());
+        if !has_room(self.limit, size, buf.len()) {
             return Err(io::Error::from(ErrorKind::FileTooLarge));
         }
         let count = self.file.write(buf)?;

@@ -19,8 +19,8 @@ pub enum SendOutcome {
     Blocked,
     /// The connection is lost.
     Lost,
-    /// The file cannot be read, or ends before its lines do.
-    Unreadable,
+    /// The file cannot be read: the system's error, or 0 if the file ends before its lines do.
+    Unreadable { code: i32 },
 }
 
 /// Sends a piece of a file, whose whole lines end at `end`, to a connection, where others may have taken lines before.
@@ -64,7 +64,7 @@ pub fn send_piece<F: HeldText, W: Write>(
     match read_piece(file, next, &mut piece[..most]) {
         PieceRead::Bytes(count) => write_piece(cursor, sink, &piece[..count]),
         PieceRead::Interrupted => SendOutcome::Some,
-        PieceRead::Failed => SendOutcome::Unreadable,
+        PieceRead::Failed(code) => SendOutcome::Unreadable { code },
     }
 }
 
@@ -75,8 +75,8 @@ enum PieceRead {
     Bytes(usize),
     /// None: a signal came first.
     Interrupted,
-    /// None: the system refuses it, or the file has no more.
-    Failed,
+    /// None, by this error of the system; 0 if the file has no more.
+    Failed(i32),
 }
 
 /// Reads bytes from a place on.
@@ -85,10 +85,10 @@ fn read_piece<F: HeldText>(file: &F, place: u64, piece: &mut [u8]) -> PieceRead
         × IfSome (F.text file.now) (λ held. take count piece.new ≡ take count (drop place held))) }
 {
     match file.read_from(place, piece) {
-        Ok(0) => PieceRead::Failed,
+        Ok(0) => PieceRead::Failed(0),
         Ok(count) => PieceRead::Bytes(count),
         Err(error) if error.kind() == ErrorKind::Interrupted => PieceRead::Interrupted,
-        Err(_) => PieceRead::Failed,
+        Err(error) => PieceRead::Failed(error.raw_os_error().unwrap_or(0)),
     }
 }
 

@@ -16,10 +16,13 @@ pub trait SpoolDisk {
     /// What is there at a path; of a link, the link itself.
     fn look_at(&self, path: &str) -> io::Result<Metadata>;
 
-    /// Opens a file to read it.
+    /// Opens a file to read it, and to write behind its end. It waits for nobody, whatever the file is.
     fn open_held(&self, path: &str) -> io::Result<File>;
 
-    /// Makes a file anew, which is written and then read, and only its owner may read. One that is there goes.
+    /// Opens the file of a folder's records, to read and to write it, and makes it if it is not there.
+    fn open_records(&self, path: &str) -> io::Result<File>;
+
+    /// Makes a file, which is written and then read, and only its owner may read. Refuses if something is there.
     fn make_new(&self, path: &str) -> io::Result<File>;
 
     /// Gives a file another name, in place of what has that.
@@ -41,14 +44,23 @@ impl SpoolDisk for HostRuntime {
     }
 
     fn open_held(&self, path: &str) -> io::Result<File> {
-        File::open(self, path)
+        // A FIFO that is opened to read alone waits for a writer.
+        OpenOptions::new().read(true).append(true).open(self, path)
     }
 
-    fn make_new(&self, path: &str) -> io::Result<File> {
-        let _ = fs::remove_file(self, path);
+    fn open_records(&self, path: &str) -> io::Result<File> {
         OpenOptions::new()
             .read(true)
             .write(true)
+            .create(true)
+            .mode(OWNER_ALONE)
+            .open(self, path)
+    }
+
+    fn make_new(&self, path: &str) -> io::Result<File> {
+        OpenOptions::new()
+            .read(true)
+            .append(true)
             .create_new(true)
             .mode(OWNER_ALONE)
             .open(self, path)

@@ -1,15 +1,13 @@
 //! The files of all destinations.
 
-use crate::dest_spool::{DestSpool, take_left_new};
-use crate::file_names::{FileNames, fits_name};
+use crate::dest_spool::DestSpool;
+use crate::file_names::fits_name;
+use crate::open_folder::{FolderAt, OpenFault, OpenFolder};
 use crate::spool_disk::SpoolDisk;
 use conf_text::Dest;
 use relay_base::{NoMemory, add};
 use std::alloc::{AllocError, Global};
 use std::fmt::Write as _;
-
-/// How many bytes are sent, or looked at, at once.
-const PIECE: usize = 65_536;
 
 /// The files of all destinations of a relay, in their order, and what is to be said of them.
 #[derive(Drop)]
@@ -19,17 +17,17 @@ pub struct SpoolFiles {
 }
 
 /// The files of destinations in a folder. The news name each file there that is of no destination, each that holds something
-/// else than whole lines, and each destination whose name is too long for a file. Refuses if out of memory.
+/// else than whole lines, and each destination whose name is too long for a file. Refuses a file that cannot be used, and if out
+/// of memory.
 pub fn open_all<D: SpoolDisk>(
     disk: &D,
     alloc: Global,
-    folder: &str,
+    folder: FolderAt<'_>,
     dests: &[Dest],
-) -> Result<SpoolFiles, NoMemory> {
-    let mut news = String::new(alloc);
-    tell_strangers(disk, alloc, folder, dests, &mut news)?;
-    take_left(disk, alloc, folder, dests, &mut news)?;
-    open_each(disk, alloc, folder, dests, &[], news)
+) -> Result<SpoolFiles, OpenFault> {
+    let mut strangers = String::new(alloc);
+    tell_strangers(disk, alloc, folder.path, dests, &mut strangers)?;
+    open_each(disk, alloc, folder, dests, &[], strangers)
 }
 
 /// The files of those of these destinations that are not known, as [`open_all`] opens those of all: the files of the others are
@@ -37,54 +35,54 @@ pub fn open_all<D: SpoolDisk>(
 pub fn open_others<D: SpoolDisk>(
     disk: &D,
     alloc: Global,
-    folder: &str,
+    folder: FolderAt<'_>,
     dests: &[Dest],
     are_known: &[bool],
-) -> Result<SpoolFiles, NoMemory> {
+) -> Result<SpoolFiles, OpenFault> {
     open_each(disk, alloc, folder, dests, are_known, String::new(alloc))
 }
 
-/// The files of those of these destinations that are not known, with more news.
+/// The files of those of these destinations that are not known, with these news before others.
 fn open_each<D: SpoolDisk>(
     disk: &D,
     alloc: Global,
-    folder: &str,
+    at: FolderAt<'_>,
     dests: &[Dest],
     are_known: &[bool],
     news: String,
-) -> Result<SpoolFiles, NoMemory> {
-    let mut news = news;
-    let mut piece = vec![in alloc; 0; PIECE]?;
+) -> Result<SpoolFiles, OpenFault> {
+    let mut folder = OpenFolder::new(disk, alloc, at, dests.len(), news)?;
     let mut spools = Vec::new(alloc);
-    for (place, dest) in dests.iter().enumerate() {
-        if are_known.get(place).copied().unwrap_or(false) {
-            add(&mut spools, None)?;
-            continue;
+    match add_each(disk, alloc, &mut folder, dests, are_known, &mut spools) {
+        Ok(()) => Ok(SpoolFiles {
+            dests: spools,
+            news: folder.into_news(),
+        }),
+        Err(fault) => {
+            drop(spools);
+            drop(folder);
+            Err(fault)
         }
-        tell_long_name(alloc, dest, &mut news)?;
-        let spool = DestSpool::open(disk, alloc, folder, dest, &mut piece, &mut news)?;
-        add(&mut spools, Some(spool))?;
     }
-    drop(piece);
-    Ok(SpoolFiles {
-        dests: spools,
-        news,
-    })
 }
 
-/// Keeps what stops left that were killed while they wrote the files of these destinations. The news name it.
-fn take_left<D: SpoolDisk>(
+/// Adds the files of each destination that is not known.
+fn add_each<D: SpoolDisk>(
     disk: &D,
     alloc: Global,
-    folder: &str,
+    folder: &mut OpenFolder<'_>,
     dests: &[Dest],
-    news: &mut String,
-) -> Result<(), NoMemory> {
-    for dest in dests {
-        let names = FileNames::new(alloc, folder, dest)?;
-        let told = take_left_new(disk, &names, news);
-        drop(names);
-        told?;
+    are_known: &[bool],
+    spools: &mut Vec<Option<DestSpool>>,
+) -> Result<(), OpenFault> {
+    for (place, dest) in dests.iter().enumerate() {
+        if are_known.get(place).copied().unwrap_or(false) {
+            add(spools, None)?;
+            continue;
+        }
+        tell_long_name(alloc, dest, &mut folder.news)?;
+        let spool = DestSpool::open(disk, alloc, folder, dest)?;
+        add(spools, Some(spool))?;
     }
     Ok(())
 }

@@ -2,7 +2,8 @@
 
 use std::io;
 use std::io::ErrorKind;
-use std::sync::atomic::{AtomicBool, AtomicU64, Ordering};
+use std::sync::OnceLock;
+use std::sync::atomic::{AtomicBool, AtomicI32, AtomicU64, Ordering};
 
 /// What happened to the file of a destination. Its sender alone notes it; the first thread and that of the log read it at the
 /// same time.
@@ -19,6 +20,9 @@ pub struct SpoolNotes {
     has_failed: AtomicBool,
     has_no_room: AtomicBool,
     is_lost: AtomicBool,
+    error: AtomicI32,
+    // What is to be said of the earlier file.
+    news: OnceLock<String>,
 }
 
 /// Why a new file took no more.
@@ -42,6 +46,8 @@ impl SpoolNotes {
             has_failed: AtomicBool::new(false),
             has_no_room: AtomicBool::new(false),
             is_lost: AtomicBool::new(false),
+            error: AtomicI32::new(0),
+            news: OnceLock::new(),
         }
     }
 
@@ -103,6 +109,8 @@ impl SpoolNotes {
             error.kind(),
             ErrorKind::StorageFull | ErrorKind::QuotaExceeded | ErrorKind::FileTooLarge
         );
+        let code = error.raw_os_error().unwrap_or(0);
+        self.error.store(code, Ordering::SeqCst);
         self.has_no_room.store(has_no_room, Ordering::SeqCst);
         self.has_failed.store(true, Ordering::SeqCst);
     }
@@ -122,6 +130,26 @@ impl SpoolNotes {
             Some(SpoolFailure::NoRoom)
         } else {
             Some(SpoolFailure::CannotWrite)
+        }
+    }
+
+    /// The system's error by which the new file took no more; 0 if it had none.
+    pub fn error_code(&self) -> i32 {
+        self.error.load(Ordering::SeqCst)
+    }
+
+    /// These news are to be said of the earlier file. Only the first ones are.
+    pub(crate) fn note_news(&self, news: String) {
+        if let Err(news) = self.news.try_set(news) {
+            drop(news);
+        }
+    }
+
+    /// What is to be said of the earlier file, if there is something.
+    pub fn news(&self) -> Option<&str> {
+        match self.news.get() {
+            Some(news) => Some(news.as_str()),
+            None => None,
         }
     }
 }

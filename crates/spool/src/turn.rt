@@ -5,9 +5,12 @@
 pub enum Turn<W> {
     /// The connection took the file's last whole line: it may take other lines.
     Over(W),
-    /// The file cannot be read: the connection took whole lines of it, and may take other lines.
-    GivenUp(W),
-    /// The connection is lost, or the file cannot be read, and the connection took a part of a line.
+    /// The file cannot be read, by this error of the system, 0 if it is shorter than it was. The connection took whole lines
+    /// of it, and may take other lines.
+    GivenUp { sink: W, code: i32 },
+    /// The same, where the connection took a part of a line: nothing else may go behind that.
+    Broken { code: i32 },
+    /// The connection is lost.
     Lost,
     /// The connection, if there is one, stays with the file.
     Kept,

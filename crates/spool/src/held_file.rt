@@ -1,0 +1,153 @@
+//! A file that holds lines which are to be sent.
+
+use crate::file_connection::FileConnection;
+use crate::sent_table::SentPlace;
+use crate::turn::Turn;
+use backlog::Cursor;
+use std::fs::File;
+use std::io::Write;
+
+/// How far a file is sent, and where that is noted, if it is.
+#[derive(Drop)]
+pub(crate) struct SentPart {
+    cursor: Cursor,
+    place: Option<SentPlace>,
+}
+
+impl SentPart {
+    /// Nothing is sent.
+    pub(crate) fn none() -> SentPart {
+        SentPart {
+            cursor: Cursor::new(),
+            place: None,
+        }
+    }
+}
+
+/// A file that holds lines: where these end, and how far they are sent.
+#[derive(Drop)]
+pub(crate) struct HeldFile {
+    file: File,
+    end: u64,
+    sent: SentPart,
+    // Whether it has something behind its whole lines, and so is put aside and not removed.
+    has_begun_line: bool,
+    // Whether it could not be read, so that nothing more of it is sent in this run.
+    has_failed: bool,
+}
+
+impl HeldFile {
+    /// A file whose whole lines end there, of which this part is sent.
+    pub(crate) fn new(file: File, end: u64, sent: SentPart) -> HeldFile {
+        HeldFile {
+            file,
+            end,
+            sent,
+            has_begun_line: false,
+            has_failed: false,
+        }
+    }
+
+    /// It was sent up to a place, from where its sending goes on.
+    pub(crate) fn go_on_at(&mut self, place: u64) {
+        self.sent.cursor = Cursor::at(place);
+    }
+
+    /// From now on it is noted there how far it is sent.
+    pub(crate) fn note_at(&mut self, place: SentPlace) {
+        self.sent.place = Some(place);
+    }
+
+    /// The file.
+    pub(crate) fn file(&self) -> &File {
+        &self.file
+    }
+
+    /// Where its whole lines end.
+    pub(crate) fn end(&self) -> u64 {
+        self.end
+    }
+
+    /// Where the next byte is that a connection gets.
+    pub(crate) fn next(&self) -> u64 {
+        self.sent.cursor.next()
+    }
+
+    pub(crate) fn cursor_mut(&mut self) -> &mut Cursor {
+        &mut self.sent.cursor
+    }
+
+    /// Whether all its lines are sent.
+    pub(crate) fn is_sent(&self) -> bool {
+        self.sent.cursor.start() >= self.end
+    }
+
+    pub(crate) fn has_begun_line(&self) -> bool {
+        self.has_begun_line
+    }
+
+    /// It has something behind its whole lines.
+    pub(crate) fn note_begun_line(&mut self) {
+        self.has_begun_line = true;
+    }
+
+    pub(crate) fn has_failed(&self) -> bool {
+        self.has_failed
+    }
+
+    /// It could not be read.
+    pub(crate) fn note_failed(&mut self) {
+        self.has_failed = true;
+    }
+
+    /// Its connection is gone: the next one gets what that did not take whole. It is tried again if it could not be read.
+    pub(crate) fn reconnect(&mut self) {
+        self.sent.cursor.reconnect();
+        self.has_failed = false;
+    }
+
+    /// Sends a piece to a connection, and notes how far it is sent then.
+    pub(crate) fn send<W: Write + Drop>(
+        &mut self,
+        connection: &mut FileConnection<W>,
+        piece: &mut [u8],
+    ) -> Turn<W> {
+        if let Some(place) = &self.sent.place {
+            place.begin_piece();
+        }
+        let turn = connection.send(&self.file, self.end, &mut self.sent.cursor, piece);
+        if let Some(place) = &mut self.sent.place {
+            place.note(&self.file, self.sent.cursor.start());
+        }
+        turn
+    }
+
+    /// Nothing more of it is sent. Returns the connection, if that took whole lines alone; otherwise it is gone.
+    pub(crate) fn end_connection<W: Drop>(&self, connection: &mut FileConnection<W>) -> Option<W> {
+        let sink = connection.take();
+        if self.sent.cursor.start() == self.sent.cursor.next() {
+            sink
+        } else {
+            drop(sink);
+            None
+        }
+    }
+
+    /// Its place is noted no more.
+    pub(crate) fn free(&self) {
+        if let Some(place) = &self.sent.place {
+            place.free();
+        }
+    }
+
+    /// The file, where its whole lines end, and which part of them is sent.
+    pub(crate) fn into_parts(self) -> (File, u64, SentPart) {
+        let HeldFile {
+            file,
+            end,
+            sent,
+            ..
+        } = self;
+        (file, end, sent)
+    }
+}
