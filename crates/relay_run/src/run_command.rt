@@ -8,7 +8,7 @@
 //! makes the next run ready while the one before goes on; `ended_of` takes that apart, and `start_after` has what the next
 //! begins with.
 
-ghost use Rattle.std.specs.Prelude.{◌≡◌, false, IfOk, IfErr, Result};
+ghost use Rattle.std.specs.Prelude.{◌≡◌, false, Ok, Err, IfOk, IfErr, Result};
 ghost use Rattle.std.specs.Io.KnownBytes.{Appends};
 ghost use Rattle.std.specs.Option.{is_none};
 ghost use Rattle.locked_queues.specs.declared.settled.Settled.{Settled};
@@ -281,36 +281,13 @@ fn run_relay<
                 relay.noted().dests,
                 relay.state.spool_notes(),
             );
-            stop(alloc, relay, left, ports, output, recorder)
+            stopped(stop(alloc, relay, left, ports, output, recorder))
         }
     }
 }
 
-/// Settles the last run, and writes what it leaves.
-fn stop<B: Set, W: Write, L: Drop, K: Recorder>(
-    alloc: Global,
-    relay: Relay<B>,
-    left: RunLeft<L>,
-    ports: FirstPorts,
-    output: &mut W,
-    recorder: &mut Option<K>,
-) -> Result<RunEnd<L>, RelayFault>
-    ensures stopped { IfOk result (λ end. IfStopped end (λ status.
-        (settled : Result Settled SettleFault)
-        × Appends (W.contents output.old) (W.contents output.new) (closing_line settled)
-        × (status ≡ closing_status settled))) }
-    ensures never_followed { IfOk result (λ end. IfFollowed end (λ _. ⊥)) }
-    ensures err { IfErr result (λ fault. (settled : Result Settled SettleFault)
-        × ClosesWith (W.contents output.old) (W.contents output.new) settled left.records.fault fault) }
-{
-    match end_last(alloc, relay, left, ports, output, recorder) {
-        Ok(status) => Ok(RunEnd::Stopped(status)),
-        Err(fault) => Err(fault),
-    }
-}
-
 /// Settles the last run, writes what it leaves, and ends what watched it.
-fn end_last<B: Set, W: Write, L: Drop, K: Recorder>(
+fn stop<B: Set, W: Write, L: Drop, K: Recorder>(
     alloc: Global,
     relay: Relay<B>,
     left: RunLeft<L>,
@@ -325,46 +302,35 @@ fn end_last<B: Set, W: Write, L: Drop, K: Recorder>(
         × ClosesWith (W.contents output.old) (W.contents output.new) settled left.records.fault fault) }
 {
     let mut relay = relay;
-    let ended = settle_last(alloc, &mut relay, &left.records, output, recorder);
-    end_process(relay, left, ports);
-    ended
-}
-
-/// Settles the last run, and writes its closing line, and what its recorder makes of it.
-fn settle_last<B: Set, W: Write, K: Recorder>(
-    alloc: Global,
-    relay: &mut Relay<B>,
-    records: &Records,
-    output: &mut W,
-    recorder: &mut Option<K>,
-) -> Result<Status, RelayFault>
-    ensures ok { IfOk result (λ status. (settled : Result Settled SettleFault)
-        × Appends (W.contents output.old) (W.contents output.new) (closing_line settled)
-        × (status ≡ closing_status settled)) }
-    ensures err { IfErr result (λ fault. (settled : Result Settled SettleFault)
-        × ClosesWith (W.contents output.old) (W.contents output.new) settled records.now.fault
-        fault) }
-{
-    let (doors, outlets) = (records.doors.as_slice(), records.outlets.as_slice());
-    let settled = relay.queues.settle(alloc, doors, outlets);
-    let run = relay.finished(&settled, &records.logs);
-    let ended = write_end(alloc, &run, records.fault, output, recorder);
-    mem::forget(settled);
-    ended
-}
-
-/// Ends what watched the last run. Whoever waits at the admin port for the end of the relay knows of it then. The rest is not
-/// given back: datapoint by datapoint that would take long, and the system takes it at once.
-fn end_process<B: Set, L: Drop>(relay: Relay<B>, left: RunLeft<L>, ports: FirstPorts) {
     let RunLeft {
         records,
         log,
         server,
     } = left;
+    let (doors, outlets) = (records.doors.as_slice(), records.outlets.as_slice());
+    let settled = relay.queues.settle(alloc, doors, outlets);
+    let run = relay.finished(&settled, &records.logs);
+    let ended = write_end(alloc, &run, records.fault, output, recorder);
     drop((log, server));
+    // Whoever waits at the admin port for the end of the relay knows of it now.
     drop(ports);
+    // Datapoint by datapoint it would take long to give all this back. The process ends, and the system takes it at once.
+    mem::forget(settled);
     mem::forget(records);
     mem::forget(relay);
+    ended
+}
+
+/// The end of a run that was stopped.
+fn stopped<L: Drop>(ended: Result<Status, RelayFault>) -> Result<RunEnd<L>, RelayFault>
+    ensures stopped { IfOk result (λ end. IfStopped end (λ status. ended ≡ Ok status)) }
+    ensures never_followed { IfOk result (λ end. IfFollowed end (λ _. ⊥)) }
+    ensures err { IfErr result (λ fault. ended ≡ Err fault) }
+{
+    match ended {
+        Ok(status) => Ok(RunEnd::Stopped(status)),
+        Err(fault) => Err(fault),
+    }
 }
 
 /// Takes a relay apart whose run has ended, and makes of it what the next one begins with. If that cannot begin, what is left

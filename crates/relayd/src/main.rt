@@ -24,7 +24,7 @@ mod started_paths;
 mod system_faults;
 mod words;
 
-use admin_key::{key_at, slice_of};
+use admin_key::key_at;
 use command_line::{Explain, Invocation, Paths, VERSION};
 use file_limit::{ErrorRoom, LimitedOutput, file_limit, limited_output};
 use files::{file_at, names_at, sources_at};
@@ -152,7 +152,7 @@ where
                 Ok(key) => key,
                 Err(status) => return Ok(status),
             };
-            let files = RelayFiles::new(rt, alloc, *threads, paths, slice_of(&key))?;
+            let files = RelayFiles::start(rt, alloc, *threads, paths, key)?;
             let mut recorded = Status::Done;
             let recorder = match recorder_of(rt, alloc, record, &mut recorded) {
                 Ok(recorder) => recorder,

@@ -1,5 +1,6 @@
 //! The files of a reload, as the running relay reads them.
 
+use crate::admin_key::slice_of;
 use crate::read_files::{FileSources, ReadFiles, ReadsFiles, read_files};
 use crate::started_paths::{absolute_paths, copy_of, names_of};
 use admin_client::Refusal;
@@ -9,12 +10,22 @@ use relay_files::{RelayFault, RunConfiguration, Status};
 use relay_run::{RefusedReload, ReloadSource};
 use std::alloc::Global;
 use std::fmt::Write as _;
+use std::mem;
+use std::sync::atomic::{AtomicU64, Ordering};
 use std::sync::{Arc, Mutex, Wait};
-use std::thread::Threads;
-use std::{mem, thread};
+use std::thread::{Builder, Threads};
+use std::time::Duration;
 
-/// The state of a reading, which two threads share: the one that reads and the one that asks.
-type Slot = Arc<Mutex<Reading>>;
+/// For how many milliseconds the thread that reads sleeps at most.
+const PAUSE_MS: u64 = 60_000;
+
+/// What two threads share: the one that reads and the one that asks.
+#[derive(Drop)]
+struct SharedReading {
+    reading: Mutex<Reading>,
+    // How often files were asked for.
+    asked: AtomicU64,
+}
 
 /// The state of a reading.
 #[derive(Drop)]
@@ -28,58 +39,70 @@ enum Reading {
 }
 
 /// The files that a relay began with, which a reload reads again: in a thread of its own, since a file on a dead network mount
-/// may never answer.
+/// may never answer. The thread is there from the start on, so that a reload needs no new one.
 #[derive(Drop)]
-pub struct RelayFiles<'k, R> {
+pub struct RelayFiles<R> {
     rt: R,
     paths: Paths,
-    key: Option<&'k [u8]>,
-    slot: Slot,
+    key: Option<Vec<u8>>,
+    shared: Arc<SharedReading>,
 }
 
-impl<'k, R> RelayFiles<'k, R> {
-    /// The files at these paths, and the key of the admin port, if it has one. Refuses if out of memory.
-    pub fn new(
+impl<R: Threads + Wait + ReadsFiles + Copy + Send + Drop + 'static> RelayFiles<R> {
+    /// Starts the thread that reads the files at these paths, for as long as the process lasts; the key is that of the admin
+    /// port, if it has one. Refuses if out of memory, also if the thread cannot be started.
+    pub fn start(
         host: &HostRuntime,
         alloc: Global,
         rt: R,
         paths: &Paths,
-        key: Option<&'k [u8]>,
-    ) -> Result<RelayFiles<'k, R>, NoMemory>
-    where
-        R: Drop,
-    {
-        let slot = Arc::new(alloc, Mutex::new(Reading::Nothing))?;
-        Ok(RelayFiles {
-            rt,
-            paths: absolute_paths(host, alloc, paths)?,
-            key,
-            slot,
-        })
-    }
-}
-
-impl<R: Threads + Wait + ReadsFiles + Copy + Send + Drop + 'static> ReloadSource
-    for RelayFiles<'_, R> {
-    fn key(&self) -> Option<&[u8]> {
-        self.key
-    }
-
-    fn begin(&self, alloc: Global) -> Result<(), RefusedReload> {
-        if is_under_way(&self.rt, &self.slot) {
-            return Err(earlier_hangs(alloc));
-        }
-        match start(self.rt, alloc, &self.paths, &self.slot) {
-            Ok(()) => Ok(()),
-            Err(NoMemory) => {
-                set_reading(&self.rt, &self.slot, Reading::Nothing);
-                Err(RefusedReload::no_memory(alloc))
+        key: Option<Vec<u8>>,
+    ) -> Result<RelayFiles<R>, NoMemory> {
+        let shared = Arc::new(
+            alloc,
+            SharedReading {
+                reading: Mutex::new(Reading::Nothing),
+                asked: AtomicU64::new(0),
+            },
+        )?;
+        let paths = absolute_paths(host, alloc, paths)?;
+        let (their_paths, theirs) = (copy_of(&paths)?, Arc::try_clone(&shared)?);
+        let name = String::from_str(alloc, "file reader")?;
+        let started = Builder::new()
+            .name(name)
+            .spawn(&rt, move || read_when_asked(&rt, alloc, &their_paths, &theirs));
+        match started {
+            Ok(_) => Ok(RelayFiles {
+                rt,
+                paths,
+                key,
+                shared,
+            }),
+            Err(_) => {
+                drop((paths, key, shared));
+                Err(NoMemory)
             }
         }
     }
+}
+
+impl<R: Wait> ReloadSource for RelayFiles<R> {
+    fn key(&self) -> Option<&[u8]> {
+        slice_of(&self.key)
+    }
+
+    fn begin(&self, alloc: Global) -> Result<(), RefusedReload> {
+        if is_under_way(&self.rt, &self.shared) {
+            return Err(earlier_hangs(alloc));
+        }
+        set_reading(&self.rt, &self.shared, Reading::UnderWay);
+        let _before = self.shared.asked.fetch_add(1, Ordering::SeqCst);
+        self.shared.asked.wake_all();
+        Ok(())
+    }
 
     fn look(&self, alloc: Global) -> Option<Result<RunConfiguration, RefusedReload>> {
-        let read = take_read(&self.rt, &self.slot)?;
+        let read = take_read(&self.rt, &self.shared)?;
         Some(configuration_of(alloc, read, &self.paths))
     }
 
@@ -88,47 +111,49 @@ impl<R: Threads + Wait + ReadsFiles + Copy + Send + Drop + 'static> ReloadSource
     }
 }
 
-/// Whether a reading is under way.
-fn is_under_way<R: Wait>(rt: &R, slot: &Slot) -> bool {
-    let slot = slot.lock(rt);
-    matches!(*slot, Reading::UnderWay)
-}
-
-/// Starts the thread of a reading. Refuses if there is no memory, or no thread.
-fn start<R: Threads + Wait + ReadsFiles + Copy + Send + Drop + 'static>(
-    rt: R,
+/// Reads the files at these paths whenever it is asked to.
+fn read_when_asked<R: Wait + ReadsFiles>(
+    rt: &R,
     alloc: Global,
     paths: &Paths,
-    slot: &Slot,
-) -> Result<(), NoMemory> {
-    let paths = copy_of(paths)?;
-    let theirs = Arc::try_clone(slot)?;
-    set_reading(&rt, slot, Reading::UnderWay);
-    match thread::spawn(&rt, move || put_files(&rt, alloc, paths, &theirs)) {
-        Ok(_) => Ok(()),
-        Err(_) => Err(NoMemory),
+    shared: &SharedReading,
+) {
+    for _ in rt.forever() {
+        let seen = shared.asked.load(Ordering::SeqCst);
+        if is_under_way(rt, shared) {
+            set_reading(rt, shared, Reading::Done(read_files(rt, alloc, paths)));
+        } else {
+            shared
+                .asked
+                .park_timeout(rt, low_half(seen), Duration::from_millis(PAUSE_MS));
+        }
     }
+    unreachable!()
 }
 
-/// Reads the files at these paths, and puts them into a slot.
-fn put_files<R: Wait + ReadsFiles>(rt: &R, alloc: Global, paths: Paths, slot: &Slot) {
-    let read = read_files(rt, alloc, &paths);
-    drop(paths);
-    set_reading(rt, slot, Reading::Done(read));
+/// The half of a counter by whose change a sleep ends.
+fn low_half(count: u64) -> u32 {
+    (count % 4_294_967_296) as u32
+}
+
+/// Whether a reading is under way.
+fn is_under_way<R: Wait>(rt: &R, shared: &SharedReading) -> bool {
+    let reading = shared.reading.lock(rt);
+    matches!(*reading, Reading::UnderWay)
 }
 
 /// Sets the state of a reading.
-fn set_reading<R: Wait>(rt: &R, slot: &Slot, reading: Reading) {
-    *slot.lock(rt) = reading;
+fn set_reading<R: Wait>(rt: &R, shared: &SharedReading, reading: Reading) {
+    *shared.reading.lock(rt) = reading;
 }
 
 /// Takes the files, once they were read.
-fn take_read<R: Wait>(rt: &R, slot: &Slot) -> Option<ReadFiles> {
-    let mut slot = slot.lock(rt);
-    if matches!(*slot, Reading::UnderWay) {
+fn take_read<R: Wait>(rt: &R, shared: &SharedReading) -> Option<ReadFiles> {
+    let mut reading = shared.reading.lock(rt);
+    if matches!(*reading, Reading::UnderWay) {
         return None;
     }
-    match mem::replace(&mut *slot, Reading::Nothing) {
+    match mem::replace(&mut *reading, Reading::Nothing) {
         Reading::Done(read) => Some(read),
         _ => None,
     }

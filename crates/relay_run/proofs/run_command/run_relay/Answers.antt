@@ -31,11 +31,15 @@ returns-in-None g c =
     let opened = on_ok-is _ _ _ c.in-Ok-left.is c.run_until_ended-left.ensures.ok in
     let thread = ok-is _ _ _ c.in-Ok-left.is c.run_until_ended-left.ensures.fault in
     record {
-      stopped = IfOk-weaker c.stop.result _ _ (λ e is. stopped-weaker e _ _ (λ status closes. record {
-        settled = closes.0;
-        wrote = writes-both _ _ _ _ closes.0 opened closes.1;
-        says = closes.2;
-      }) is) c.stop.ensures.stopped;
-      followed = IfOk-weaker c.stop.result _ _ (λ e is. never-followed e _ is) c.stop.ensures.never_followed;
-      err = IfErr-weaker c.stop.result _ _ (λ fault is. fails-closing _ _ _ _ is.0 _ fault opened thread is.1) c.stop.ensures.err;
+      stopped = IfOk-weaker c.stopped.result _ _ (λ e is. stopped-weaker e _ _ (λ status ends.
+        let closes = ok-is _ _ _ ends c.stop.ensures.ok in
+        record {
+          settled = closes.0;
+          wrote = writes-both _ _ _ _ closes.0 opened closes.1;
+          says = closes.2;
+        }) is) c.stopped.ensures.stopped;
+      followed = IfOk-weaker c.stopped.result _ _ (λ e is. never-followed e _ is) c.stopped.ensures.never_followed;
+      err = IfErr-weaker c.stopped.result _ _ (λ fault ends.
+        let closes = err-is _ _ _ ends c.stop.ensures.err in
+        fails-closing _ _ _ _ closes.0 _ fault opened thread closes.1) c.stopped.ensures.err;
     }
