@@ -14,7 +14,7 @@ dest_words (event.ConnectedAgain why) = codes "connected again, was lost: " ++ w
 dest_words (event.Lost why) = codes "lost: " ++ why_text why
 dest_words (event.CannotConnect why None) = codes "cannot connect: " ++ why_text why
 dest_words (event.CannotConnect why (Some to)) =
-    codes "cannot connect to " ++ socket_text to ++ codes ": " ++ why_text why
+    codes "cannot connect to " ++ (socket_text to ++ (codes ": " ++ why_text why))
 dest_words event.BeginsToDrop = codes "queue full, dropping"
 dest_words (event.DropsNoMore dropped) = codes "stopped dropping, dropped " ++ decimal dropped
 

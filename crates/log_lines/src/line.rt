@@ -61,8 +61,7 @@ fn push_cannot_connect_to(
     ensures { OnOk result (string_bytes text.new
         ≡ string_bytes text.old ++ dest_words (DestEvent.CannotConnect why (Some address))) }
 {
-    write!(text, "cannot connect to {address}")?;
-    write!(text, ": {why}")
+    write!(text, "cannot connect to {address}: {why}")
 }
 
 /// Adds the line for the state of a receiver of a name. Fails when out of memory; the text may have a part of the line
