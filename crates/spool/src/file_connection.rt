@@ -138,10 +138,10 @@ impl<W: Write + Drop> FileConnection<W> {
         let mut sink = sink;
         match send_lines(file, end, cursor, &mut sink, piece) {
             SendOutcome::All => Turn::Over(sink),
-            SendOutcome::Unreadable { code } if cursor.start() == cursor.next() => {
-                Turn::GivenUp { sink, code }
-            }
             SendOutcome::Unreadable { code } => {
+                if is_between_lines(cursor) {
+                    return Turn::GivenUp { sink, code };
+                }
                 self.sink = Some(sink);
                 Turn::Broken { code }
             }
@@ -160,4 +160,11 @@ impl<W: Write + Drop> FileConnection<W> {
             }
         }
     }
+}
+
+/// Whether what a connection took so far of a text are whole lines.
+fn is_between_lines(cursor: &Cursor) -> bool
+    ensures { IsTrue result ↔ cursor.now.start ≡ cursor.now.next }
+{
+    cursor.start() == cursor.next()
 }
