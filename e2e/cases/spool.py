@@ -18,8 +18,6 @@ COUNT = 3_000
 FOREVER = "3600"  # seconds: for so long no case waits
 REST = 0.05       # seconds between two reads of a slow store
 LIBC = ctypes.CDLL(None, use_errno=True)
-# What a stop asks of the system for a file, and the number of the call before which it is killed.
-CALLS = [("openat", 1), ("openat", 2), ("write", 1), ("write", 3), ("fsync", 1), ("fsync", 2), ("rename", 1), ("rename", 2)]
 
 
 class Spool(WithSpool):
@@ -443,47 +441,6 @@ class Spool(WithSpool):
         noted = run(["check", *files, "--longest-name", "1024", "--explain", "--spool", self.dir])
         self.assertIn(f"relayd: note: spool: {dest}: too long a name for a file, so nothing of it is kept\n".encode(), noted.err)
 
-
-    @unittest.skipUnless(shutil.which("strace"), "strace is not there")
-    def test_a_stop_that_is_killed_at_each_call(self):
-        """The file of an earlier run is sent once, and of the queue what the next start finds in the destination's file."""
-        for call, number in CALLS:
-            for earlier in (b"", text_of(numbered(COUNT, b"old")), text_of(numbered(COUNT, b"old")) + b"cut 1 17"):
-                with self.subTest(call=call, number=number, earlier=earlier[-9:]):
-                    self.killed_at(call, number, earlier)
-
-    def killed_at(self, call, number, earlier):
-        """A stop is killed before this call of those that name the destination's files; then a relay starts."""
-        subprocess.run(["find", self.dir, "-mindepth", "1", "-delete"], check=True)
-        port, = free_ports(1)
-        dest = f"127.0.0.1:{port}"
-        old, queued = earlier.split(b"\n")[:-1], numbered(COUNT, b"new")
-        if earlier:
-            self.write(dest, earlier)
-        with self.spooling([dest]) as relay:
-            self.queued(relay, queued)
-            words = ["strace", "-f", "-p", str(relay.child.pid), "-e", f"trace={call}",
-                     "-e", f"inject={call}:signal=SIGKILL:when={number}"]
-            for name in (dest, dest + "~new", dest + "~aside"):
-                words += ["-P", self.path(name)]
-            with subprocess.Popen(words, stderr=subprocess.PIPE) as tracer:
-                tracer.stderr.readline()
-                with contextlib.suppress(OSError):
-                    relay.ask(b"stop", b"\n")
-                is_killed = relay.child.wait(LIMIT) == -signal.SIGKILL
-                tracer.communicate(timeout=LIMIT)
-        store = Store(port).start()
-        self.addCleanup(store.stop)
-        with self.spooling([dest]) as relay:
-            relay.lines(b"last 1 1\n")
-            self.wait_for(lambda: store.lines()[-1:] == [b"last 1 1"], "the last line has come")
-            self.settles(relay)
-        came = store.lines()[:-1]
-        self.assertEqual(came[:len(old)], old)
-        kept = came[len(old):]
-        self.assertEqual(kept, queued[:len(kept)])
-        if not is_killed:
-            self.assertEqual(kept, queued)
 
 
 class Restart(WithRelays):

@@ -11,7 +11,6 @@ use Rattle.relay_files.specs.declared.fault.RelayFault.{RelayFault}
 use Rattle.relay_files.specs.declared.fault.RelayFault.TheVariants.{NoMemory, CannotRead}
 use Rattle.relay_files.specs.declared.source.Sources.{Sources}
 use Rattle.relay_files.specs.Files.{File, Unreadable, Bytes, Files, ReadAs, AllReadAs}
-use Rattle.relay_files.specs.Checksum.{sum_of}
 use Rattle.relay_files.specs.Configuration.{Configuration, configuration_of, files_of, text_in}
 use Rattle.relay_files.specs.declared.configuration.Configuration.{Configuration as ReadConfiguration}
 use Rattle.relay_files.specs.Faults.{Fails, EndsAt}
@@ -25,7 +24,7 @@ configuration_seen read =
     record {
       settings = read.settings;
       plan = read.plan;
-      sum = sum_of (files_of (λ v. v.items) read.config read.rules read.rewrite);
+      files = files_of (λ v. v.items) read.config read.rules read.rewrite;
     }
 
 -- a command that ends at its files has not read its script
