@@ -6,8 +6,8 @@ use crate::tests::shapes::{Shape, open_set};
 use dest_queue::{Counts, Hand, QueuedPoints};
 use line_text::Point;
 use locked_queues::{
-    BlankTotals, Door, DoorRecord, DoorSeat, EndedSet, LockedDoor, OpenGate, Opened, Outlet, OutletRecord,
-    OutletSeat, Queues, READERS_EACH, Set, SettleFault, Settled, Supply,
+    BlankTotals, Door, DoorRecord, DoorSeat, EndedSet, LockedDoor, OpenGate, Opened, Outlet,
+    OutletRecord, OutletSeat, Queues, READERS_EACH, Set, SettleFault, Settled, Supply,
 };
 use relay_base::DestId;
 use std::alloc::Global;
@@ -338,7 +338,11 @@ fn report_of<B: Set, R: Wait>(
         &mut seen,
     )?;
     let compared = others.unwrap_or(&records);
-    let settled = queues.settle(alloc, compared.doors.as_slice(), compared.outlets.as_slice());
+    let settled = queues.settle(
+        alloc,
+        compared.doors.as_slice(),
+        compared.outlets.as_slice(),
+    );
     let counts = queues.counts(rt, DestId(0));
     let end = end_set(alloc, queues, compared)?;
     Some(SetReport {
@@ -372,16 +376,7 @@ pub(crate) fn settle_set<B: Set, R: Wait>(
         doors,
         outlets,
     } = open_set::<B>(alloc, blank, shape)?;
-    report_of(
-        rt,
-        alloc,
-        queues,
-        doors,
-        outlets,
-        acts,
-        shape.dests,
-        others,
-    )
+    report_of(rt, alloc, queues, doors, outlets, acts, shape.dests, others)
 }
 
 /// What a set reports after all of this.

@@ -32,14 +32,14 @@ returns-in-None g c =
     let thread = ok-is _ _ _ c.in-Ok-left.is c.run_until_ended-left.ensures.fault in
     record {
       stopped = IfOk-weaker c.stopped.result _ _ (λ e is. stopped-weaker e _ _ (λ status ends.
-        let closes = ok-is _ _ _ ends c.stop.ensures.ok in
-        record {
-          settled = closes.0;
-          wrote = writes-both _ _ _ _ closes.0 opened closes.1;
-          says = closes.2;
-        }) is) c.stopped.ensures.stopped;
+          let closes = ok-is _ _ _ ends c.stop.ensures.ok in
+          record {
+            settled = closes.0;
+            wrote = writes-both _ _ _ _ closes.0 opened closes.1;
+            says = closes.2;
+          }) is) c.stopped.ensures.stopped;
       followed = IfOk-weaker c.stopped.result _ _ (λ e is. never-followed e _ is) c.stopped.ensures.never_followed;
       err = IfErr-weaker c.stopped.result _ _ (λ fault ends.
-        let closes = err-is _ _ _ ends c.stop.ensures.err in
-        fails-closing _ _ _ _ closes.0 _ fault opened thread closes.1) c.stopped.ensures.err;
+          let closes = err-is _ _ _ ends c.stop.ensures.err in
+          fails-closing _ _ _ _ closes.0 _ fault opened thread closes.1) c.stopped.ensures.err;
     }
