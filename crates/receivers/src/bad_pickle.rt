@@ -19,9 +19,7 @@ impl Frames<'_> {
     /// Why the first of them that cannot be read cannot, if that is seen. Of the one that had begun, only the first bytes are
     /// known.
     pub(crate) fn first_wrong(self, alloc: Global) -> BadPickle {
-        let (begun, mut rest) = self
-            .text
-            .split_at(self.begun.lacks.min(self.text.len()));
+        let (begun, mut rest) = self.text.split_at(self.begun.lacks.min(self.text.len()));
         if let Some(why) = self.begun_wrong(begun) {
             return why;
         }

@@ -133,12 +133,7 @@ fn counts_of(reader: &Reader, plan: &Plan) -> InputCounts {
 }
 
 /// Tells the socket if a datagram had bad input: its reader had counted this before and counts that now.
-fn note_bad<A: Datagrams>(
-    socket: &mut A,
-    before: InputCounts,
-    now: InputCounts,
-    datagram: &[u8],
-) {
+fn note_bad<A: Datagrams>(socket: &mut A, before: InputCounts, now: InputCounts, datagram: &[u8]) {
     let faults = now.faults_since(&before);
     if has_more(before.totals.faults, faults) {
         socket.note_bad(before.totals.faults, faults, datagram);

@@ -72,7 +72,13 @@ fn serve_or_list<S: Read + Drop, A: Accept, D: Door, F: StopFlag>(
     }
     let before = counts_at(reads, token, plan);
     let _served = reads.serve_one(token, plan, door, moment);
-    note_served(listener, reads, token, before, counts_at(reads, token, plan));
+    note_served(
+        listener,
+        reads,
+        token,
+        before,
+        counts_at(reads, token, plan),
+    );
 }
 
 /// What the reader of a token has counted by now.

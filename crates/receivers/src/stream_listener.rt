@@ -225,11 +225,7 @@ impl StreamListener {
 
     /// Takes a new connection, and watches it under the token. Without a token it waits if another one gives way to it, and
     /// otherwise it is closed.
-    fn admit(
-        &mut self,
-        token: Option<Token>,
-        stream: HandedStream,
-    ) -> AcceptOutcome<HeldStream> {
+    fn admit(&mut self, token: Option<Token>, stream: HandedStream) -> AcceptOutcome<HeldStream> {
         if token.is_some() {
             self.notes.note_taken();
         } else if self.connections.idle.give_way() {

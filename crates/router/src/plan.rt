@@ -145,7 +145,9 @@ impl Plan {
         match self.names.find_again(point.name.text().as_bytes()) {
             Some(entry) => {
                 let emptied = &mut self.emptied;
-                entry.value.send(self.alloc, &entry.name, point, dests, emptied)
+                entry
+                    .value
+                    .send(self.alloc, &entry.name, point, dests, emptied)
             }
             None => self.send_other(point, dests),
         }
