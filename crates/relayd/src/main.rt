@@ -74,11 +74,11 @@ fn main(rt: HostRuntime) -> ExitCode {
 
 /// Runs a command on the standard streams. `threads` starts the relay's threads, and is the runtime too:
 /// only the program's first function has it with threads in it.
-fn run<R>(
-    rt: &HostRuntime,
+fn run<'a, R>(
+    rt: &'a HostRuntime,
     threads: &R,
     alloc: Global,
-    invocation: &Invocation,
+    invocation: &'a Invocation,
 ) -> Result<Status, RelayFault>
 where
     R: Threads + Wait + Clock + Resolve + SystemFacts + SystemTables + SpoolDisk,
@@ -214,11 +214,11 @@ fn relay_options(options: command_line::RunOptions) -> RunOptions {
 }
 
 /// Routes the names of a file to standard output, and reports the bad ones on standard error.
-fn run_names(
-    rt: &HostRuntime,
+fn run_names<'a>(
+    rt: &'a HostRuntime,
     alloc: Global,
-    paths: &Paths,
-    names: &String,
+    paths: &'a Paths,
+    names: &'a String,
 ) -> Result<Status, RelayFault> {
     let mut output = buffered_output(rt, alloc)?;
     route_names(

@@ -24,19 +24,19 @@ const LONGEST_LINE: usize = 4_200;
 
 /// A folder that this relay alone uses, for as long as it has this value.
 #[derive(Drop)]
-pub struct OwnFolder<'a> {
-    path: &'a str,
+pub struct OwnFolder {
+    path: String,
     owner: Option<u32>,
     limit: Option<u64>,
     fault: SpoolFault,
     _lock: File,
 }
 
-impl OwnFolder<'_> {
+impl OwnFolder {
     /// The folder, for a run.
     pub fn folder(&self) -> SpoolFolder<'_> {
         SpoolFolder {
-            path: self.path,
+            path: self.path.as_str(),
             owner: self.owner,
             limit: self.limit,
             fault: &self.fault,
@@ -48,7 +48,7 @@ impl OwnFolder<'_> {
 /// is that of a device then.
 pub fn end_with_fault(
     rt: &HostRuntime,
-    own: &Option<OwnFolder<'_>>,
+    own: &Option<OwnFolder>,
     ended: Result<Status, RelayFault>,
 ) -> Result<Status, RelayFault> {
     let Some(own) = own else {
@@ -75,26 +75,27 @@ enum FolderFault {
 /// The folder at a path, if one is given. Refuses, with a line on standard error, one that another relay uses or that takes no
 /// files: it makes one, writes to it, waits until that is on the disk, and removes it. A disk without room is no reason, since
 /// the relay can do its work: it says so.
-pub fn own_folder<'a>(
+pub fn own_folder(
     rt: &HostRuntime,
     alloc: Global,
-    path: &'a Option<String>,
-) -> Result<Option<OwnFolder<'a>>, Status> {
+    path: &Option<String>,
+) -> Result<Option<OwnFolder>, Status> {
     let Some(path) = path else {
         return Ok(None);
     };
-    let path = path.as_str();
-    let (Ok(lock), Ok(trial)) = (
+    let (Ok(own_path), Ok(lock), Ok(trial)) = (
+        String::from_str(alloc, path.as_str()),
         format!(in alloc; "{path}/{LOCK}"),
         format!(in alloc; "{path}/{TRIAL}"),
     ) else {
         return Err(Status::NoMemory);
     };
+    let path = path.as_str();
     match locked(rt, lock.as_str()) {
         Ok(file) => {
             let owner = try_to_write(rt, path, trial.as_str())?;
             Ok(Some(OwnFolder {
-                path,
+                path: own_path,
                 owner,
                 limit: file_limit(rt),
                 fault: SpoolFault::none(),
