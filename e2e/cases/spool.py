@@ -356,55 +356,6 @@ class Spool(WithSpool):
         with open(self.path(dest + "~aside"), "rb") as file:
             self.assertEqual(file.read(), b"c 3")
 
-    def test_what_is_put_aside_replaces_nothing(self):
-        """The second one has a number behind its name."""
-        dest = f"127.0.0.1:{free_ports(1)[0]}"
-        for text in (b"first", b"second"):
-            self.write(dest, text)
-            with self.spooling([dest]) as relay:
-                self.settles(relay)
-        self.assertEqual(self.files(), [dest + "~aside", dest + "~aside.1"])
-        for name, text in zip(self.files(), (b"first", b"second")):
-            with open(self.path(name), "rb") as file:
-                self.assertEqual(file.read(), text)
-
-    def test_a_link_and_a_fifo(self):
-        """They are not followed and not waited for, and are put aside."""
-        store, = self.stores(1)
-        dest = f"127.0.0.1:{store.port}"
-        self.write("~target", b"a 1 1\n")
-        os.symlink(self.path("~target"), self.path(dest))
-        for number in range(2):
-            with self.spooling([dest]) as relay:
-                line = b"b%d 1 1" % number
-                relay.lines(line + b"\n")
-                self.wait_for(lambda it=line: store.lines()[-1:] == [it], "the line has come, and the relay works")
-                self.settles(relay)
-            if number == 0:
-                os.mkfifo(self.path(dest))
-        self.assertEqual(store.lines(), [b"b0 1 1", b"b1 1 1"])
-        self.assertEqual(self.files(), [dest + "~aside", dest + "~aside.1", "~target"])
-
-    def test_what_a_killed_stop_left(self):
-        """Where the file is not there, its lines are sent; otherwise it is put aside. The log names it."""
-        store, = self.stores(1)
-        dest = f"127.0.0.1:{store.port}"
-        left = numbered(10, b"left")
-        for held, sent in ([], left), (numbered(10), numbered(10)):
-            with self.subTest(held=len(held)):
-                if held:
-                    self.write(dest, text_of(held))
-                self.write(dest + "~new", text_of(left))
-                before = len(store.lines())
-                with self.spooling([dest], "--log") as relay:
-                    log = Log(relay.child.stderr)
-                    self.wait_for(lambda it=sent, at=before: store.lines()[at:] == it, "the lines are sent")
-                    self.ends(relay)
-                    log.thread.join(LIMIT)
-                self.assertTrue(any(line.startswith(b"spool: " + self.path(dest).encode() + b"~new: ") for line in log.lines))
-        self.assertEqual(self.files(), [dest + "~aside"])
-        self.assertEqual(self.held(dest + "~aside"), left)
-
     def test_a_file_of_no_destination(self):
         """It stays, the log names it, and so does a note of check."""
         store, = self.stores(1)
