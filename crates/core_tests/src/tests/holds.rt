@@ -112,15 +112,21 @@ fn is_first_free<B: Set + Send + Sync, R: Threads + Wait + Sync>(
 ) -> Option<bool>
     requires { 2 ≡ B.dests }
 {
-    thread::scope(thread::scope_env(), rt, |scope| -> Option<bool> {
-        let child = scope
-            .spawn(move || offer_to_both(rt, queues, seat, gate, point))
-            .ok()?;
-        let is_held = comes_true(&gate.is_held);
-        let counts = queues.counts(rt, DestId(0));
-        gate.is_released.store(true, Ordering::SeqCst);
-        Some(child.join(rt) && is_held && counts.offered == 1)
-    })
+    thread::scope(
+        thread::scope_env(),
+        rt,
+        |scope| -> Option<bool>
+            requires { 2 ≡ B.dests }
+        {
+            let child = scope
+                .spawn(move || offer_to_both(rt, queues, seat, gate, point))
+                .ok()?;
+            let is_held = comes_true(&gate.is_held);
+            let counts = queues.counts(rt, DestId(0));
+            gate.is_released.store(true, Ordering::SeqCst);
+            Some(child.join(rt) && is_held && counts.offered == 1)
+        },
+    )
 }
 
 /// Whether that is so in a new set.
