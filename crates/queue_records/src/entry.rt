@@ -1,5 +1,5 @@
 //! An entry of a record, and the step that it records.
-ghost use Rattle.std.specs.Prelude.{◌≡◌, ℕ, ◌+◌, ◌-◌, ◌*◌, ◌<◌, ◌≤◌, ◌^◌, IsTrue};
+ghost use Rattle.std.specs.Prelude.{◌≡◌, ℕ, ◌+◌, ◌-◌, ◌*◌, ◌<◌, ◌≤◌, ◌^◌, ◌↔◌, IsTrue};
 ghost use Rattle.std.specs.Arc.{arc_value};
 ghost use Rattle.dest_queue.specs.Step.{recorded_of};
 ghost use Rattle.queue_records.specs.Made.{offer_of};
@@ -25,8 +25,8 @@ pub(crate) trait Entry {
 
     /// Whether this is the step.
     fn is(&self, dest: usize, step: &Step) -> bool
-        ensures { IsTrue result → (dest ≡ (step_of self.now).dest)
-            × (recorded_of step.now ≡ (step_of self.now).step) };
+        ensures { IsTrue result ↔ ((dest ≡ (step_of self.now).dest)
+            × (recorded_of step.now ≡ (step_of self.now).step)) };
 }
 
 impl Entry for Made {
@@ -84,7 +84,7 @@ fn key(dest: usize, maker: usize, readers: usize) -> usize
 
 /// Whether two datapoints are equal, wherever they lie.
 fn is_same_point(one: &Point, other: &Point) -> bool
-    ensures { IsTrue result → one.now ≡ other.now }
+    ensures { IsTrue result ↔ (one.now ≡ other.now) }
 {
     one.value == other.value && one.time == other.time && one.name.text() == other.name.text()
 }

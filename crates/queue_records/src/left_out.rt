@@ -1,7 +1,8 @@
 //! What no history or no record has.
-ghost use Rattle.std.specs.Prelude.{◌≡◌, ℕ, ◌<◌, Some, None, slice_get, IfOk, IfNone};
+ghost use Rattle.std.specs.Prelude.{◌≡◌, ℕ, ◌*◌, ◌<◌, ◌==◌, if◌then◌else◌, Some, None, length, slice_get, slice_index, IfOk, IfNone, MatchOption};
 ghost use Rattle.std.specs.Vec.{vec_len};
-ghost use Rattle.queue_records.specs.Settling.{AreUnsealed};
+ghost use Rattle.queue_records.specs.Settling.{AreUnsealed, HoldsOfEach, IsWhole, IsMet, IsFirstWithout, FitsAt, offers_in, taken_in};
+ghost use Rattle.queue_records.specs.Takes.{saturating_sum};
 
 use crate::door_record::DoorRecord;
 use crate::made::Made;
@@ -19,7 +20,10 @@ pub fn first_left_out(
     doors: &[DoorRecord],
     outlets: &[OutletRecord],
 ) -> Result<Option<usize>, NoMemory>
-    ensures { IfOk result (λ found. IfNone found (AreUnsealed counts.now)) }
+    ensures unsealed { IfOk result (λ found. IfNone found (AreUnsealed counts.now)) }
+    ensures whole { IfOk result (λ found. MatchOption found
+        (HoldsOfEach (IsWhole doors.now outlets.now) counts.now)
+        (IsFirstWithout (IsWhole doors.now outlets.now) counts.now)) }
 {
     let mut offers = vec![in alloc; 0; counts.len()]?;
     for door in doors {
@@ -34,12 +38,15 @@ pub fn first_left_out(
 
 /// The least destination that was sealed, or for which these numbers fall short of the counts.
 fn first_short(counts: &[Counts], offers: &[u64], taken: &[u64]) -> Option<usize>
-    ensures { IfNone result (AreUnsealed counts.now) }
+    requires offers { length offers.now ≡ length counts.now }
+    requires taken { length taken.now ≡ length counts.now }
+    ensures { MatchOption result (HoldsOfEach (IsMet offers.now taken.now) counts.now)
+        (λ dest. IsFirstWithout (IsMet offers.now taken.now) counts.now dest
+        × FitsAt counts.now dest) }
 {
     for dest in 0..counts.len() {
-        let is_short = offers.get(dest).copied() < Some(counts[dest].offered)
-            || taken.get(dest).copied() < Some(counts[dest].taken);
-        if counts[dest].seals > 0 || is_short {
+        let count = counts[dest];
+        if count.seals > 0 || offers[dest] < count.offered || taken[dest] < count.taken {
             return Some(dest);
         }
     }
@@ -47,19 +54,34 @@ fn first_short(counts: &[Counts], offers: &[u64], taken: &[u64]) -> Option<usize
 }
 
 /// Counts the offers that a record has, at each destination.
-fn count_offers(made: &[Made], offers: &mut Vec<u64>) {
+fn count_offers(made: &[Made], offers: &mut Vec<u64>)
+    ensures len { vec_len offers.new ≡ vec_len offers.old }
+    ensures counts { (d : ℕ) → d < vec_len offers.old → slice_index offers.new.items d
+        ≡ saturating_sum (slice_index offers.old.items d) (offers_in d made.now) }
+{
     for entry in made {
-        if let Some(count) = offers.get_mut(entry.dest.0) {
-            *count = count.saturating_add(1);
-        }
+        add_to(offers, entry.dest.0, 1);
     }
 }
 
 /// Counts the datapoints of the takes that a record has, at each destination.
-fn count_taken(takes: &[TakenBatch], taken: &mut Vec<u64>) {
+fn count_taken(takes: &[TakenBatch], taken: &mut Vec<u64>)
+    ensures len { vec_len taken.new ≡ vec_len taken.old }
+    ensures counts { (d : ℕ) → d < vec_len taken.old → slice_index taken.new.items d
+        ≡ saturating_sum (slice_index taken.old.items d) (taken_in d takes.now) }
+{
     for entry in takes {
-        if let Some(count) = taken.get_mut(entry.dest.0) {
-            *count = count.saturating_add(entry.taken as u64);
-        }
+        add_to(taken, entry.dest.0, entry.taken as u64);
+    }
+}
+
+/// Adds to the count of a destination, if there is one.
+fn add_to(counts: &mut Vec<u64>, dest: usize, more: u64)
+    ensures len { vec_len counts.new ≡ vec_len counts.old }
+    ensures counts { (d : ℕ) → d < vec_len counts.old → slice_index counts.new.items d
+        ≡ saturating_sum (slice_index counts.old.items d) (if dest == d then more else 0) }
+{
+    if dest < counts.len() {
+        counts[dest] = counts[dest].saturating_add(more);
     }
 }

@@ -1,6 +1,7 @@
 //! The sums of the records.
-ghost use Rattle.std.specs.Prelude.{◌≡◌, ℕ, List, Some, None, slice_get, slice_index, sum_by, IfSome, IfNone, IsTrue};
-ghost use Rattle.queue_records.specs.Settling.{AreSums, HaveSums};
+ghost use Rattle.std.specs.Prelude.{◌≡◌, ◌<◌, ◌↔◌, ℕ, List, Some, None, slice_get, slice_index, sum_by, MatchOption, IsTrue};
+ghost use Rattle.dest_queue.specs.Offer.{last_count};
+ghost use Rattle.queue_records.specs.Settling.{AreSums, HaveSums, IsFirstWithout};
 
 use crate::door_record::DoorRecord;
 use crate::outlet_record::OutletRecord;
@@ -12,7 +13,8 @@ pub fn first_without_sums(
     doors: &[DoorRecord],
     outlets: &[OutletRecord],
 ) -> Option<usize>
-    ensures { IfNone result (HaveSums doors.now outlets.now counts.now) }
+    ensures { MatchOption result (HaveSums doors.now outlets.now counts.now)
+        (IsFirstWithout (AreSums doors.now outlets.now) counts.now) }
 {
     for dest in 0..counts.len() {
         if !are_sums(doors, outlets, dest, &counts[dest]) {
@@ -24,7 +26,7 @@ pub fn first_without_sums(
 
 /// Whether the counts of a queue are the sums of what doors and outlets count.
 fn are_sums(doors: &[DoorRecord], outlets: &[OutletRecord], dest: usize, counts: &Counts) -> bool
-    ensures { IsTrue result → AreSums doors.now outlets.now dest counts.now }
+    ensures { IsTrue result ↔ AreSums doors.now outlets.now dest counts.now }
 {
     total_at(doors, dest) == Some(counts.offered)
         && drops_at(doors, dest) == Some(counts.dropped)
@@ -59,8 +61,9 @@ impl Totals for OutletRecord {
 
 /// The sum of the records' counts at a destination, if it fits a count.
 fn total_at<R: Totals>(records: &[R], dest: usize) -> Option<u64>
-    ensures { IfSome result (λ n.
-        n ≡ sum_by (λ r. slice_index (R.totals_of r) dest) records.now) }
+    ensures { MatchOption result
+        (last_count < sum_by (λ r. slice_index (R.totals_of r) dest) records.now)
+        (λ n. n ≡ sum_by (λ r. slice_index (R.totals_of r) dest) records.now) }
 {
     let mut sum = 0u64;
     for record in records {
@@ -71,8 +74,9 @@ fn total_at<R: Totals>(records: &[R], dest: usize) -> Option<u64>
 
 /// The sum of the offers that were dropped at a destination, if it fits a count.
 fn drops_at(doors: &[DoorRecord], dest: usize) -> Option<u64>
-    ensures { IfSome result (λ n.
-        n ≡ sum_by (λ r. slice_index r.drops.items dest) doors.now) }
+    ensures { MatchOption result
+        (last_count < sum_by (λ r. slice_index r.drops.items dest) doors.now)
+        (λ n. n ≡ sum_by (λ r. slice_index r.drops.items dest) doors.now) }
 {
     let mut sum = 0u64;
     for door in doors {
