@@ -1,5 +1,5 @@
 //! What no history or no record has.
-ghost use Rattle.std.specs.Prelude.{◌≡◌, ℕ, ◌*◌, ◌<◌, ◌==◌, if◌then◌else◌, Some, None, length, slice_get, slice_index, IfOk, IfNone, MatchOption};
+ghost use Rattle.std.specs.Prelude.{◌≡◌, ℕ, ◌<◌, ◌==◌, if◌then◌else◌, Some, None, length, slice_get, slice_index, IfOk, IfNone, MatchOption};
 ghost use Rattle.std.specs.Vec.{vec_len};
 ghost use Rattle.queue_records.specs.Settling.{AreUnsealed, HoldsOfEach, IsWhole, IsMet, IsFirstWithout, FitsAt, offers_in, taken_in};
 ghost use Rattle.queue_records.specs.Takes.{saturating_sum};

@@ -28,9 +28,25 @@ pub fn first_without_sums(
 fn are_sums(doors: &[DoorRecord], outlets: &[OutletRecord], dest: usize, counts: &Counts) -> bool
     ensures { IsTrue result ↔ AreSums doors.now outlets.now dest counts.now }
 {
-    total_at(doors, dest) == Some(counts.offered)
-        && drops_at(doors, dest) == Some(counts.dropped)
-        && total_at(outlets, dest) == Some(counts.taken)
+    totals_add_up(doors, dest, counts.offered)
+        && drops_add_up(doors, dest, counts.dropped)
+        && totals_add_up(outlets, dest, counts.taken)
+}
+
+/// Whether the records' counts at a destination add up to this.
+fn totals_add_up<R: Totals>(records: &[R], dest: usize, count: u64) -> bool
+    ensures { IsTrue result
+        ↔ (sum_by (λ r. slice_index (R.totals_of r) dest) records.now ≡ count) }
+{
+    total_at(records, dest) == Some(count)
+}
+
+/// Whether the offers that were dropped at a destination add up to this.
+fn drops_add_up(doors: &[DoorRecord], dest: usize, count: u64) -> bool
+    ensures { IsTrue result
+        ↔ (sum_by (λ r. slice_index r.drops.items dest) doors.now ≡ count) }
+{
+    drops_at(doors, dest) == Some(count)
 }
 
 /// A record that counts at each destination.
