@@ -8,7 +8,7 @@ static DIGITS: [&str; 16] = [
 ];
 
 /// Adds a text in quotes, with what JSON does not let stand in them escaped. Fails when out of memory.
-pub(crate) fn push_string(text: &mut String, value: &str) -> Result<(), AllocError> {
+pub fn push_string(text: &mut String, value: &str) -> Result<(), AllocError> {
     text.push('"')?;
     for sign in value.chars() {
         match sign {
@@ -29,13 +29,13 @@ fn push_control(text: &mut String, code: u32) -> Result<(), AllocError> {
 }
 
 /// Adds a member whose value is a text, and a comma before it unless it is the first.
-pub(crate) fn push_member(text: &mut String, key: &str, value: &str) -> Result<(), AllocError> {
+pub fn push_member(text: &mut String, key: &str, value: &str) -> Result<(), AllocError> {
     push_key(text, key)?;
     push_string(text, value)
 }
 
 /// Adds the key of a member, and a comma before it unless it is the first of its object.
-pub(crate) fn push_key(text: &mut String, key: &str) -> Result<(), AllocError> {
+pub fn push_key(text: &mut String, key: &str) -> Result<(), AllocError> {
     if !text.ends_with('{') {
         text.push(',')?;
     }

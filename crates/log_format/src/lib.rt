@@ -1,7 +1,7 @@
 //! Other forms of the log's lines: behind a time and a level, or as objects of JSON.
 //!
 //! [`push_timed_lines`] and [`push_json_lines`] take whole lines of the log. [`level_of`] says how much a line matters, and
-//! [`LineParts`] whom it is about. All calls are proved safe and returning; the texts are tested
+//! [`LineParts`] whom it is about. [`push_key`] and [`push_string`] write a part of an object. All calls are proved safe and returning; the texts are tested
 //! (`e2e/cases/log_forms.py`).
 #![tactic(auto)]
 
@@ -13,6 +13,7 @@ mod lines;
 mod time_text;
 
 pub use counts::{Count, counts_in};
+pub use json::{push_key, push_member, push_string};
 pub use level::{Level, level_of};
 pub use line_parts::LineParts;
 pub use lines::{push_json_lines, push_timed_lines};
