@@ -1,6 +1,6 @@
 //! The words of the commands for a running relay: `report`, `stop`, `restart` and `reload`.
 
-use crate::commands::{EXPLAIN, FILES};
+use crate::commands::{EXPLAIN, FILES, JSON};
 use crate::long_help::{RELOAD_HELP, REPORT_HELP, RESTART_HELP, STOP_HELP};
 use crate::options::path_option;
 use crate::words::{CommandWords, Form, Word};
@@ -15,7 +15,7 @@ pub(crate) static REPORT: CommandWords = CommandWords {
     about: "Prints the counts of a running relay, one line for each destination",
     long_help: REPORT_HELP,
     files: &[],
-    words: &[ADMIN, ADMIN_KEY],
+    words: &[ADMIN, ADMIN_KEY, JSON],
     choice: None,
 };
 

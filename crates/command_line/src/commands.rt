@@ -59,7 +59,17 @@ pub(crate) static PASS: CommandWords = CommandWords {
         Word {
             name: "explain",
             form: Form::Flag,
-            help: "Writes a note about each bad line to standard error as it comes",
+            help: "Writes a note about each bad line, pickle or row to standard error as it comes",
+        },
+        Word {
+            name: "strict",
+            form: Form::Flag,
+            help: "Exits with status 1 if a line, a pickle or a row is bad, or too long",
+        },
+        Word {
+            name: "pickle",
+            form: Form::Flag,
+            help: "Reads frames of pickles, as the pickle port gets them, instead of lines",
         },
         Word {
             name: "moment",
@@ -89,6 +99,11 @@ pub(crate) static CHECK: CommandWords = CommandWords {
             form: Form::FlagWith("explain"),
             help: "With --explain: exits with status 1 if there is a note",
         },
+        Word {
+            name: "json",
+            form: Form::FlagWith("explain"),
+            help: "With --explain: prints the notes, an object of JSON a line",
+        },
     ],
     choice: None,
 };
@@ -104,9 +119,11 @@ pub(crate) static ROUTE: CommandWords = CommandWords {
         Word {
             name: "names",
             form: Form::Value("FILE"),
-            help: "A file of names, one per line, instead of NAME; - is standard input",
+            help: "A file of names, one per line, instead of NAME",
         },
         EXPLAIN,
+        STRICT,
+        JSON,
         Word {
             name: "name",
             form: Form::Bare("NAME"),
@@ -138,6 +155,7 @@ pub(crate) static REPLAY: CommandWords = CommandWords {
             help: "Also shows as text what each destination got",
         },
         EXPLAIN,
+        STRICT,
         Word {
             name: "script",
             form: Form::Bare("SCRIPT"),
@@ -242,6 +260,20 @@ pub(crate) const FILES: &[Word] = &[
         help: "Drops datapoints whose names have more than N characters, 1 to 4000",
     },
 ];
+
+/// The option of a command that sends names or datapoints, which makes a fault of what gets nowhere.
+const STRICT: Word = Word {
+    name: "strict",
+    form: Form::Flag,
+    help: "Exits with status 1 if a line or a name is bad, or a name is dropped or goes nowhere",
+};
+
+/// The option that asks a command for objects of JSON.
+pub(crate) const JSON: Word = Word {
+    name: "json",
+    form: Form::Flag,
+    help: "Prints an object of JSON a line",
+};
 
 /// The option that asks such a command for notes.
 pub(crate) const EXPLAIN: Word = Word {

@@ -4,8 +4,11 @@ use crate::client_words::{AdminAt, RELOAD, REPORT, RESTART, STOP, admin_at};
 use crate::commands::{CHECK, REPLAY, ROUTE, RUN, relayd_command};
 use crate::explain::Explain;
 use crate::options::{explain_option, moment_option, path_option, path_options, text_option};
+use crate::output_form::{OutputForm, RouteOutput, form_option, route_output};
+use crate::pass_input::{PassInput, pass_input};
 use crate::paths::Paths;
 use crate::run_options::{RunOptions, run_options};
+use crate::standard_input::{CONFIGURATION_FILES, REPLAY_FILES, ROUTE_FILES, check_inputs};
 use crate::tips::with_tip;
 use clap::error::ErrorKind;
 use clap::{ArgMatches, Error};
@@ -15,11 +18,13 @@ use std::alloc::Global;
 /// What the words ask for.
 #[derive(Drop)]
 pub enum Invocation {
-    /// `pass`: lines of standard input to standard output, with the moment of the whole input, and whether files were
-    /// named that it does not read.
+    /// `pass`: the datapoints of standard input to standard output as lines, with the moment of the whole input, whether bad
+    /// input is a fault, and whether files were named that it does not read.
     Pass {
         moment: Moment,
+        input: PassInput,
         explain: Explain,
+        is_strict: bool,
         ignores_files: bool,
     },
     /// `check`: whether the files are a configuration; the notes are of a spool's directory too, if one is named.
@@ -27,31 +32,36 @@ pub enum Invocation {
         paths: Paths,
         spool: Option<String>,
         explain: Explain,
+        form: OutputForm,
     },
     /// `route`: where the files send a metric of this name.
     Route {
         paths: Paths,
         name: String,
+        output: RouteOutput,
         explain: Explain,
     },
-    /// `replay`: what the files do with the events of the script at this path.
+    /// `replay`: what the files do with the events of the script at this path, and whether what gets nowhere is a fault.
     Replay {
         paths: Paths,
         script: String,
         shows_text: bool,
+        is_strict: bool,
         explain: Explain,
     },
-    /// `replay --lines`: what the files do with the lines of the file at this path.
+    /// `replay --lines`: what the files do with the lines of the file at this path, and whether what gets nowhere is a fault.
     ReplayLines {
         paths: Paths,
         lines: String,
         shows_text: bool,
+        is_strict: bool,
         explain: Explain,
     },
     /// `route --names`: where the files send the metrics of the names in this file.
     RouteNames {
         paths: Paths,
         names: String,
+        output: RouteOutput,
         explain: Explain,
     },
     /// `run`: a relay of these files, the file of its admin port's key, the path of its record, and the directory of its spool,
@@ -67,6 +77,7 @@ pub enum Invocation {
     /// `report`: what the relay with this admin port has counted.
     Report {
         admin: AdminAt,
+        form: OutputForm,
     },
     /// `stop`: the end of the relay with this admin port, and whether to wait for it.
     Stop {
@@ -117,7 +128,9 @@ fn invocation_of(alloc: Global, matches: &ArgMatches<'_>) -> Result<Invocation, 
 fn pass_invocation(alloc: Global, options: &ArgMatches<'_>) -> Result<Invocation, Error> {
     Ok(Invocation::Pass {
         moment: moment_option(alloc, options)?,
+        input: pass_input(options),
         explain: explain_option(options, false),
+        is_strict: options.get_flag("strict"),
         ignores_files: names_files(options),
     })
 }
@@ -132,14 +145,17 @@ fn names_files(options: &ArgMatches<'_>) -> bool {
 }
 
 fn check_invocation(alloc: Global, options: &ArgMatches<'_>) -> Result<Invocation, Error> {
+    check_inputs(alloc, options, &CHECK, CONFIGURATION_FILES)?;
     Ok(Invocation::Check {
         paths: path_options(alloc, options, &CHECK)?,
         spool: path_option(alloc, options, "spool")?,
         explain: explain_option(options, options.get_flag("strict")),
+        form: form_option(options),
     })
 }
 
 fn run_invocation(alloc: Global, options: &ArgMatches<'_>) -> Result<Invocation, Error> {
+    check_inputs(alloc, options, &RUN, CONFIGURATION_FILES)?;
     Ok(Invocation::Run {
         options: run_options(alloc, options)?,
         admin_key: path_option(alloc, options, "admin-key")?,
@@ -153,6 +169,7 @@ fn run_invocation(alloc: Global, options: &ArgMatches<'_>) -> Result<Invocation,
 fn report_invocation(alloc: Global, options: &ArgMatches<'_>) -> Result<Invocation, Error> {
     Ok(Invocation::Report {
         admin: admin_at(alloc, options, &REPORT)?,
+        form: form_option(options),
     })
 }
 
@@ -164,6 +181,7 @@ fn stop_invocation(alloc: Global, options: &ArgMatches<'_>) -> Result<Invocation
 }
 
 fn restart_invocation(alloc: Global, options: &ArgMatches<'_>) -> Result<Invocation, Error> {
+    check_inputs(alloc, options, &RESTART, CONFIGURATION_FILES)?;
     Ok(Invocation::Restart {
         admin: admin_at(alloc, options, &RESTART)?,
         paths: path_options(alloc, options, &RESTART)?,
@@ -187,35 +205,43 @@ fn no_command(alloc: Global) -> Result<Invocation, Error> {
 }
 
 fn route_invocation(alloc: Global, options: &ArgMatches<'_>) -> Result<Invocation, Error> {
+    check_inputs(alloc, options, &ROUTE, ROUTE_FILES)?;
     let explain = explain_option(options, false);
+    let output = route_output(options);
     match path_option(alloc, options, "names")? {
         Some(names) => Ok(Invocation::RouteNames {
             names,
             paths: path_options(alloc, options, &ROUTE)?,
+            output,
             explain,
         }),
         None => Ok(Invocation::Route {
             name: text_option(alloc, options, "name")?,
             paths: path_options(alloc, options, &ROUTE)?,
+            output,
             explain,
         }),
     }
 }
 
 fn replay_invocation(alloc: Global, options: &ArgMatches<'_>) -> Result<Invocation, Error> {
+    check_inputs(alloc, options, &REPLAY, REPLAY_FILES)?;
     let shows_text = options.get_flag("text");
+    let is_strict = options.get_flag("strict");
     let explain = explain_option(options, false);
     match path_option(alloc, options, "lines")? {
         Some(lines) => Ok(Invocation::ReplayLines {
             lines,
             paths: path_options(alloc, options, &REPLAY)?,
             shows_text,
+            is_strict,
             explain,
         }),
         None => Ok(Invocation::Replay {
             script: text_option(alloc, options, "script")?,
             paths: path_options(alloc, options, &REPLAY)?,
             shows_text,
+            is_strict,
             explain,
         }),
     }

@@ -10,28 +10,31 @@ pub const RELAYD_HELP: &str = "Examples:
 
 Exit status:
     0    success
-    1    a file, a metric name or a script has a fault
+    1    a file, a metric name or a script has a fault, or --strict found one in the input
     2    the command line is wrong
     3    a file, a port, standard input or standard output failed
     4    out of memory
 
 A fault is one line on standard error. With --explain, notes after it show where it is and how to
-cure it. man relayd describes all options, man relay.conf the files, docs/FAULTS.md each fault.";
+cure it. For one FILE, - is standard input. man relayd describes all options, man relay.conf the files, docs/FAULTS.md each fault.";
 
 /// Of `relayd pass`.
 pub const PASS_HELP: &str = "Examples:
     relayd pass < lines.txt > good.txt
     relayd pass --explain < lines.txt > good.txt
+    relayd pass --pickle --explain < frames.bin > good.txt
 
 A line has a name, a value and a time, separated by spaces. At the end, standard error says how
 many lines were bad.
 
-Exit status: 0 success, even if lines were bad; 3 standard input or output failed.";
+Exit status: 0 success, even if lines were bad; 1 with --strict, if one was; 3 standard input or
+output failed.";
 
 /// Of `relayd check`.
 pub const CHECK_HELP: &str = "Examples:
     relayd check --config relay.conf --rules relay-rules.conf --explain
     relayd check --config relay.conf --explain --strict
+    relayd check --config relay.conf --explain --json
 
 A note is a line on standard error that begins with `relayd: note: `. Notes show where a fault is
 and how to cure it; if there is none, they show what may be a mistake.
@@ -42,12 +45,13 @@ Exit status: 0 no fault; 1 a fault or, with --strict, a note; 3 a file cannot be
 pub const ROUTE_HELP: &str = "Examples:
     relayd route --config relay.conf --rules relay-rules.conf servers.web1.cpu.load
     relayd route --config relay.conf --names names.txt
-    cut -d ' ' -f 1 lines.txt | relayd route --config relay.conf --names -
+    cut -d ' ' -f 1 lines.txt | relayd route --config relay.conf --names - --strict
+    relayd route --config relay.conf --names names.txt --json
 
 It prints the name, the new name if rewriting changes it, and the destinations.
 
-Exit status: 0 success, even if some names of a file are bad; 1 the files or NAME have a fault; 3 a
-file cannot be read.";
+Exit status: 0 success, even if some names of a file are bad; 1 the files or NAME have a fault or,
+with --strict, a name is bad, is dropped or goes nowhere; 3 a file cannot be read.";
 
 /// Of `relayd replay`.
 pub const REPLAY_HELP: &str = "Examples:
@@ -59,7 +63,8 @@ A script has a line for each reader, such as `reader line`, and for each event: 
 `wrote 0 100` hand it a batch. docs/REPLAY.md describes all events. --lines needs no script: its file
 has one datapoint per line, as a producer sends it.
 
-Exit status: 0 success; 1 the files or the script have a fault; 3 a file cannot be read.";
+Exit status: 0 success; 1 the files or the script have a fault or, with --strict, input is bad, or a
+name is dropped or goes nowhere; 3 a file cannot be read.";
 
 /// Of `relayd run`.
 pub const RUN_HELP: &str = "Example:
@@ -73,8 +78,9 @@ Exit status: 0 stopped; 1 the files have a fault; 3 it cannot listen on a port, 
 out of memory.";
 
 /// Of `relayd report`.
-pub const REPORT_HELP: &str = "Example:
+pub const REPORT_HELP: &str = "Examples:
     relayd report --admin 2015
+    relayd report --admin 2015 --json
 
 Exit status: 0 the relay answered; 3 no relay listens on the port.";
 

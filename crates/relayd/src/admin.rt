@@ -3,28 +3,56 @@
 use crate::admin_key::{key_at, slice_of};
 use crate::explain::{notes_of_reload, write};
 use crate::file_limit::limited_output;
+use crate::json_report::json_report;
 use crate::started_paths::paths_in;
 use admin_client::{
     AdminCommand, AdminFault, Refusal, RelayAt, ReloadAnswer, answer_to, ask, reload_answer_in,
     stop_and_wait,
 };
-use command_line::{AdminAt, Explain};
+use command_line::{AdminAt, Explain, OutputForm};
 use note_text::Notes;
 use relay_base::NoMemory;
-use relay_files::Status;
+use relay_files::{Status, write_out};
 use std::alloc::Global;
 use std::io::Write;
 
-/// Prints what the relay with this admin port has counted.
-pub fn report(rt: &HostRuntime, alloc: Global, admin: &AdminAt) -> Status {
+/// Prints what the relay with this admin port has counted, in this form.
+pub fn report(rt: &HostRuntime, alloc: Global, admin: &AdminAt, form: OutputForm) -> Status {
     let key = match key_at(rt, alloc, &admin.key) {
         Ok(key) => key,
         Err(status) => return status,
     };
     let relay = relay_at(admin, &key);
     let mut output = limited_output(rt);
-    let asked = ask(rt, alloc, relay, AdminCommand::Report, &mut output);
+    let asked = match form {
+        OutputForm::Text => ask(rt, alloc, relay, AdminCommand::Report, &mut output),
+        OutputForm::Json => report_as_json(rt, alloc, relay, &mut output),
+    };
     status_of(rt, admin.port, asked)
+}
+
+/// Writes what a relay has counted to the output, as objects of JSON.
+fn report_as_json<W: Write>(
+    rt: &HostRuntime,
+    alloc: Global,
+    relay: RelayAt<'_>,
+    output: &mut W,
+) -> Result<(), AdminFault> {
+    let answer = answer_to(rt, alloc, relay, AdminCommand::Report)?;
+    let report = json_report(alloc, answer.as_slice());
+    drop(answer);
+    let Ok(report) = report else {
+        return Err(AdminFault::NoMemory);
+    };
+    let Some(report) = report else {
+        return Err(AdminFault::NoRelay);
+    };
+    let written = write_out(output, report.as_str().as_bytes());
+    drop(report);
+    match written {
+        Ok(()) => Ok(()),
+        Err(_) => Err(AdminFault::Output),
+    }
 }
 
 /// Stops the relay with this admin port, and waits for its end if asked to.

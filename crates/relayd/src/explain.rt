@@ -1,9 +1,11 @@
 //! `--explain`: notes for people on standard error, beside the output of a command.
 
-use crate::files::{STANDARD_INPUT, read_regular};
+use crate::files::read_regular;
 use crate::memory_there::memory_there;
+use crate::note_output::NoteOutput;
+use crate::open_files::Files;
 use crate::reread_files::{RereadFile, RereadFiles};
-use crate::spool_folder::write_folder_notes;
+use crate::spool_folder::notes_of_folder;
 use crate::system_faults::{settings_of, write_fault_notes, write_hint};
 use command_line::{Explain, Invocation, Paths};
 use config_notes::{NotesWanted, RunLimits, notes_of_files};
@@ -19,12 +21,13 @@ use std::time::Instant;
 /// Writes the notes that a run was asked for, and returns how it ends. If there is no memory for them, there are none. A
 /// run that was not asked for notes, and has a fault, has a hint at a terminal.
 pub fn end_with_notes(
-    rt: &HostRuntime,
+    files: &Files<'_>,
     alloc: Global,
     invocation: &Invocation,
     status: Status,
     fault: Option<RelayFault>,
 ) -> Status {
+    let rt = files.runtime();
     let (paths, explain) = match invocation {
         // A reload has written its notes, of the files that the relay has named.
         Invocation::Report { .. } | Invocation::Stop { .. } | Invocation::Reload { .. } => {
@@ -61,7 +64,7 @@ pub fn end_with_notes(
     }
     if explain == Explain::Nothing {
         if let Some(fault) = fault {
-            write_hint(rt, alloc, invocation, paths, fault);
+            write_hint(files, alloc, invocation, paths, fault);
         }
         return status;
     }
@@ -70,23 +73,30 @@ pub fn end_with_notes(
     } else {
         NotesWanted::All
     };
-    let mut has_notes = write(rt, notes_of(rt, alloc, invocation, paths, wanted));
+    let mut output = NoteOutput::new(rt, alloc, invocation, paths, fault.is_some());
+    output.write(notes_of(files, alloc, invocation, paths, wanted));
     if let Invocation::Check {
         spool: Some(folder),
         ..
     } = invocation
     {
-        has_notes = spool_notes(rt, alloc, paths, folder) || has_notes;
+        output.write(notes_of_spool(files, alloc, paths, folder));
+    }
+    let (has_notes, failure) = (output.has_notes(), output.failure());
+    drop(output);
+    if let Some(failure) = failure {
+        let _ = eprintln!(rt; "relayd: {failure}");
+        return failure.status();
     }
     if let Some(fault) = fault {
-        write_fault_notes(rt, alloc, invocation, fault);
+        write_fault_notes(files, alloc, invocation, fault);
     }
     match invocation {
         Invocation::Route { name, .. } => {
             let _ = write(rt, notes_of_name(alloc, name));
         }
-        Invocation::RouteNames { names, .. } if names.as_str() != STANDARD_INPUT => {
-            let _ = write(rt, notes_of_names_at(rt, alloc, names));
+        Invocation::RouteNames { names, .. } => {
+            let _ = write(rt, notes_of_names_at(files, alloc, names));
         }
         _ => {}
     }
@@ -96,29 +106,46 @@ pub fn end_with_notes(
     status
 }
 
+/// Whether a command reads files again for notes.
+pub fn wants_notes(invocation: &Invocation) -> bool {
+    match invocation {
+        Invocation::Check { explain, .. }
+        | Invocation::Route { explain, .. }
+        | Invocation::RouteNames { explain, .. }
+        | Invocation::Replay { explain, .. }
+        | Invocation::ReplayLines { explain, .. }
+        | Invocation::Run { explain, .. }
+        | Invocation::Restart { explain, .. } => *explain != Explain::Nothing,
+        _ => false,
+    }
+}
+
 /// The note of `pass` with options that it takes and does not use.
 const FILES_OF_PASS: &str =
     "relayd: note: pass reads no files: --config, --rules and --rewrite have no effect\n";
 
-/// Writes notes of the files of a spool, if the configuration can be read. Returns whether there are any.
-fn spool_notes(rt: &HostRuntime, alloc: Global, paths: &Paths, folder: &String) -> bool {
-    let Ok(config) = RereadFile::new(rt, alloc, &paths.config) else {
-        return false;
-    };
+/// Notes of the files of a spool, if the configuration can be read.
+fn notes_of_spool(
+    files: &Files<'_>,
+    alloc: Global,
+    paths: &Paths,
+    folder: &String,
+) -> Result<Notes, NoMemory> {
+    let config = RereadFile::new(files, alloc, &paths.config)?;
     let settings = settings_of(alloc, &config);
     drop(config);
     let Some(settings) = settings else {
-        return false;
+        return Ok(Notes::new(alloc));
     };
     let dests = settings.destinations();
-    let written = write_folder_notes(rt, alloc, folder.as_str(), dests);
+    let notes = notes_of_folder(files.runtime(), alloc, folder.as_str(), dests);
     drop(settings);
-    written.unwrap_or(false)
+    notes
 }
 
 /// Notes of a file of names.
-fn notes_of_names_at(rt: &HostRuntime, alloc: Global, path: &String) -> Result<Notes, NoMemory> {
-    let file = RereadFile::new(rt, alloc, path)?;
+fn notes_of_names_at(files: &Files<'_>, alloc: Global, path: &String) -> Result<Notes, NoMemory> {
+    let file = RereadFile::new(files, alloc, path)?;
     notes_of_names(alloc, file.source())
 }
 
@@ -136,14 +163,14 @@ pub fn write(rt: &HostRuntime, notes: Result<Notes, NoMemory>) -> bool {
 /// The notes of the files at these paths, which are read again: of their first fault, or, if they have none, of what they
 /// may not intend.
 fn notes_of(
-    rt: &HostRuntime,
+    files: &Files<'_>,
     alloc: Global,
     invocation: &Invocation,
     paths: &Paths,
     wanted: NotesWanted,
 ) -> Result<Notes, NoMemory> {
     let is_check = matches!(invocation, Invocation::Check { .. });
-    notes_at(rt, alloc, paths, is_check, wanted)
+    notes_at(files, alloc, paths, is_check, wanted)
 }
 
 /// The notes of the files of a running relay, as `check` writes them, if this user may read them.
@@ -158,7 +185,7 @@ pub fn notes_of_reload(rt: &HostRuntime, alloc: Global, paths: &Paths) -> Result
             return notes_of_unread(alloc, path, reason?.as_str());
         }
     }
-    notes_at(rt, alloc, paths, true, NotesWanted::All)
+    notes_at(&Files::new(rt, false), alloc, paths, true, NotesWanted::All)
 }
 
 /// The note of a file of a running relay that this user may not read.
@@ -173,21 +200,21 @@ fn notes_of_unread(alloc: Global, path: &str, reason: &str) -> Result<Notes, NoM
 
 /// The notes of the files at these paths.
 fn notes_at(
-    rt: &HostRuntime,
+    files: &Files<'_>,
     alloc: Global,
     paths: &Paths,
     is_check: bool,
     wanted: NotesWanted,
 ) -> Result<Notes, NoMemory> {
-    let read = RereadFiles::new(rt, alloc, paths)?;
-    let files = read.sources();
+    let read = RereadFiles::new(files, alloc, paths)?;
+    let sources = read.sources();
     let limits = RunLimits {
-        memory: memory_there(rt, alloc),
+        memory: memory_there(files.runtime(), alloc),
         lacks_longest_name: is_check && paths.longest_name.is_none(),
     };
-    match notes_of_fault(alloc, &files)? {
+    match notes_of_fault(alloc, &sources)? {
         Some(notes) => Ok(notes),
-        None => notes_of_files(alloc, &files, limits, wanted),
+        None => notes_of_files(alloc, &sources, limits, wanted),
     }
 }
 

@@ -10,34 +10,52 @@ ghost use Rattle.relay_files.specs.Fault.{status_at_end};
 
 mod admin;
 mod admin_key;
+mod bad_frame;
+mod bytes_read;
 mod explain;
 mod file_limit;
 mod files;
+mod frame_notes;
+mod json_notes;
+mod json_report;
+mod json_route;
 mod log_output;
 mod memory_there;
+mod note_output;
+mod open_files;
+mod passing;
+mod pickle_pass;
 mod read_files;
 mod record_file;
 mod reload_files;
+mod replaying;
 mod reread_files;
+mod routing;
 mod spool_folder;
 mod started_paths;
+mod strict;
 mod system_faults;
+mod watched_output;
+mod watched_reader;
+mod watched_route;
 mod words;
 
 use admin_key::key_at;
-use command_line::{Explain, Invocation, Paths, VERSION};
+use command_line::{Invocation, OutputForm, Paths, VERSION};
 use file_limit::{ErrorRoom, LimitedOutput, file_limit, limited_output};
-use files::{file_at, names_at, sources_at};
-use line_text::Moment;
+use files::sources_at;
 use log_output::log_output;
-use pass_lines::pass;
+use open_files::Files;
+use passing::run_pass;
 use read_files::ReadsFiles;
 use record_file::recorder_of;
-use relay_commands::{HandedForm, check, replay, replay_lines, route, route_names};
+use relay_commands::{HandedForm, check};
 use relay_files::{RelayFault, Status};
 use relay_run::{RunOptions, StatusOptions, SystemTables};
 use relay_watchers::SystemFacts;
 use reload_files::RelayFiles;
+use replaying::{run_replay, run_replay_lines};
+use routing::{run_route, run_route_names};
 use senders::Resolve;
 use spool::SpoolDisk;
 use spool_folder::{end_with_fault, own_folder};
@@ -49,6 +67,7 @@ use std::random::RandomSource;
 use std::rt::Clock;
 use std::sync::Wait;
 use std::thread::Threads;
+use watched_output::NoOutput;
 
 /// The room for output between two writes, in bytes.
 const OUTPUT_ROOM: usize = 65_536;
@@ -59,13 +78,14 @@ const LONGEST_FAULT: usize = 100;
 fn main(rt: HostRuntime) -> ExitCode {
     let status = match words::parse_args(&rt, rt.alloc()) {
         Ok(invocation) => {
-            let ended = run(&rt, &rt, rt.alloc(), &invocation);
+            let files = Files::new(&rt, explain::wants_notes(&invocation));
+            let ended = run(&files, &rt, rt.alloc(), &invocation);
             let fault = match &ended {
                 Ok(_) => None,
                 Err(fault) => Some(*fault),
             };
             let status = print_fault(&rt, ended);
-            explain::end_with_notes(&rt, rt.alloc(), &invocation, status, fault)
+            explain::end_with_notes(&files, rt.alloc(), &invocation, status, fault)
         }
         Err(status) => status,
     };
@@ -74,8 +94,8 @@ fn main(rt: HostRuntime) -> ExitCode {
 
 /// Runs a command on the standard streams. `threads` starts the relay's threads, and is the runtime too:
 /// only the program's first function has it with threads in it.
-fn run<'a, R>(
-    rt: &'a HostRuntime,
+fn run<R>(
+    files: &Files<'_>,
     threads: &R,
     alloc: Global,
     invocation: &'a Invocation,
@@ -86,52 +106,56 @@ where
     R: Net<Listener = TcpListener, Stream = TcpStream>,
     R: Copy + Send + Sync + Drop + 'static,
 {
+    let rt = files.runtime();
     match invocation {
         Invocation::Pass {
             moment,
+            input,
             explain,
+            is_strict,
             ..
-        } => run_pass(rt, alloc, *moment, *explain),
-        Invocation::Check { paths, .. } => {
-            check(
-                alloc,
-                &mut sources_at(rt, alloc, paths)?,
-                &mut limited_output(rt),
-            )
-        }
-        Invocation::Route { paths, name, .. } => {
-            route(
-                alloc,
-                &mut sources_at(rt, alloc, paths)?,
-                name,
-                &mut limited_output(rt),
-            )
-        }
+        } => run_pass(rt, alloc, *moment, *input, *explain, *is_strict),
+        Invocation::Check { paths, form, .. } => run_check(files, alloc, paths, *form),
+        Invocation::Route {
+            paths,
+            name,
+            output,
+            ..
+        } => run_route(files, alloc, paths, name, *output),
+        Invocation::RouteNames {
+            paths,
+            names,
+            output,
+            ..
+        } => run_route_names(files, alloc, paths, names, *output),
         Invocation::Replay {
             paths,
             script,
             shows_text,
+            is_strict,
             ..
-        } => replay(
+        } => run_replay(
+            files,
             alloc,
-            &mut sources_at(rt, alloc, paths)?,
-            &mut file_at(rt, script),
+            paths,
+            script,
             handed_form(*shows_text),
-            &mut limited_output(rt),
+            *is_strict,
         ),
         Invocation::ReplayLines {
             paths,
             lines,
             shows_text,
+            is_strict,
             ..
-        } => replay_lines(
+        } => run_replay_lines(
+            files,
             alloc,
-            &mut sources_at(rt, alloc, paths)?,
-            &mut file_at(rt, lines),
+            paths,
+            lines,
             handed_form(*shows_text),
-            &mut limited_output(rt),
+            *is_strict,
         ),
-        Invocation::RouteNames { paths, names, .. } => run_names(rt, alloc, paths, names),
         Invocation::Run {
             paths,
             options,
@@ -152,7 +176,7 @@ where
                 Ok(key) => key,
                 Err(status) => return Ok(status),
             };
-            let files = RelayFiles::start(rt, alloc, *threads, paths, key)?;
+            let started = RelayFiles::start(rt, alloc, *threads, paths, key)?;
             let mut recorded = Status::Done;
             let recorder = match recorder_of(rt, alloc, record, &mut recorded) {
                 Ok(recorder) => recorder,
@@ -161,13 +185,13 @@ where
             let ended = relay_run::run(
                 threads,
                 alloc,
-                &mut sources_at(rt, alloc, paths)?,
+                &mut sources_at(files, alloc, paths)?,
                 relay_options(*options),
                 &mut limited_output(rt),
                 log_output(rt, alloc, *threads, options.log)?,
                 recorder,
                 folder,
-                &files,
+                &started,
             );
             let status = end_with_fault(rt, &own, ended)?;
             Ok(match status {
@@ -175,12 +199,12 @@ where
                 other => other,
             })
         }
-        Invocation::Report { admin } => Ok(admin::report(rt, alloc, admin)),
+        Invocation::Report { admin, form } => Ok(admin::report(rt, alloc, admin, *form)),
         Invocation::Stop { admin, waits } => Ok(admin::stop(rt, alloc, admin, *waits)),
         Invocation::Restart { paths, admin, .. } => {
             check(
                 alloc,
-                &mut sources_at(rt, alloc, paths)?,
+                &mut sources_at(files, alloc, paths)?,
                 &mut limited_output(rt),
             )?;
             Ok(admin::stop(rt, alloc, admin, true))
@@ -213,43 +237,22 @@ fn relay_options(options: command_line::RunOptions) -> RunOptions {
     }
 }
 
-/// Routes the names of a file to standard output, and reports the bad ones on standard error.
-fn run_names<'a>(
-    rt: &'a HostRuntime,
+/// Checks the files at these paths. With notes as JSON, standard output has nothing else.
+fn run_check(
+    files: &Files<'_>,
     alloc: Global,
-    paths: &'a Paths,
-    names: &'a String,
+    paths: &Paths,
+    form: OutputForm,
 ) -> Result<Status, RelayFault> {
-    let mut output = buffered_output(rt, alloc)?;
-    route_names(
-        alloc,
-        &mut sources_at(rt, alloc, paths)?,
-        &mut names_at(rt, names),
-        &mut output,
-        &mut rt.stderr(),
-    )
-}
-
-/// Passes standard input to standard output, and notes to standard error.
-fn run_pass(
-    rt: &HostRuntime,
-    alloc: Global,
-    moment: Moment,
-    explain: Explain,
-) -> Result<Status, RelayFault> {
-    let mut output = buffered_output(rt, alloc)?;
-    let mut notes = rt.stderr();
-    match explain {
-        Explain::Nothing => pass(alloc, &mut rt.stdin(), &mut output, &mut notes, moment),
-        _ => {
-            let mut input = explain::watched_input(rt, alloc, moment);
-            pass(alloc, &mut input, &mut output, &mut notes, moment)
-        }
+    let mut sources = sources_at(files, alloc, paths)?;
+    match form {
+        OutputForm::Text => { check(alloc, &mut sources, &mut limited_output(files.runtime())) }
+        OutputForm::Json => check(alloc, &mut sources, &mut NoOutput),
     }
 }
 
 /// Standard output, written when the room is full or it is flushed.
-fn buffered_output(
+pub fn buffered_output(
     rt: &HostRuntime,
     alloc: Global,
 ) -> Result<BufWriter<LimitedOutput<'_>>, RelayFault> {

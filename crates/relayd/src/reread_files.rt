@@ -1,10 +1,11 @@
 //! Files that are read again, for notes on them.
 
-use crate::files::read_any;
-use command_line::Paths;
+use crate::open_files::Files;
+use command_line::{Paths, STANDARD_INPUT};
 use note_text::{Source, SourceText, Sources};
 use relay_base::NoMemory;
 use std::alloc::Global;
+use std::io::ErrorKind;
 use std::str;
 
 /// What reading a file again gave: its bytes, or why it cannot be read.
@@ -18,19 +19,19 @@ pub struct RereadFile<'p> {
 impl<'p> RereadFile<'p> {
     /// Reads the file at a path.
     pub fn new(
-        rt: &HostRuntime,
+        files: &Files<'_>,
         alloc: Global,
         path: &'p String,
     ) -> Result<RereadFile<'p>, NoMemory> {
-        let path = path.as_str();
-        match read_any(rt, alloc, path) {
+        match files.read_again(alloc, path.as_str()) {
             Ok(bytes) => Ok(RereadFile {
-                path,
+                path: shown_path(path.as_str()),
                 bytes,
                 reason: None,
             }),
+            Err(error) if error.kind() == ErrorKind::OutOfMemory => Err(NoMemory),
             Err(error) => Ok(RereadFile {
-                path,
+                path: shown_path(path.as_str()),
                 bytes: Vec::new(alloc),
                 reason: Some(error.to_string(alloc)?),
             }),
@@ -39,12 +40,12 @@ impl<'p> RereadFile<'p> {
 
     /// Reads the file at a path, if one is given.
     fn of_given(
-        rt: &HostRuntime,
+        files: &Files<'_>,
         alloc: Global,
         path: &'p Option<String>,
     ) -> Result<Option<RereadFile<'p>>, NoMemory> {
         match path {
-            Some(path) => Ok(Some(RereadFile::new(rt, alloc, path)?)),
+            Some(path) => Ok(Some(RereadFile::new(files, alloc, path)?)),
             None => Ok(None),
         }
     }
@@ -69,6 +70,15 @@ impl<'p> RereadFile<'p> {
     }
 }
 
+/// The path of a file, as notes show it.
+pub fn shown_path(path: &str) -> &str {
+    if path == STANDARD_INPUT {
+        "standard input"
+    } else {
+        path
+    }
+}
+
 /// The files of a configuration, read again.
 #[derive(Drop)]
 pub struct RereadFiles<'p> {
@@ -80,14 +90,14 @@ pub struct RereadFiles<'p> {
 impl<'p> RereadFiles<'p> {
     /// Reads the files at these paths.
     pub fn new(
-        rt: &HostRuntime,
+        files: &Files<'_>,
         alloc: Global,
         paths: &'p Paths,
     ) -> Result<RereadFiles<'p>, NoMemory> {
         Ok(RereadFiles {
-            config: RereadFile::new(rt, alloc, &paths.config)?,
-            rules: RereadFile::of_given(rt, alloc, &paths.rules)?,
-            rewrite: RereadFile::of_given(rt, alloc, &paths.rewrite)?,
+            config: RereadFile::new(files, alloc, &paths.config)?,
+            rules: RereadFile::of_given(files, alloc, &paths.rules)?,
+            rewrite: RereadFile::of_given(files, alloc, &paths.rewrite)?,
         })
     }
 

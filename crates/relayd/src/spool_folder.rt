@@ -2,6 +2,7 @@
 
 use crate::file_limit::{ErrorRoom, file_limit};
 use conf_text::Dest;
+use note_text::Notes;
 use relay_base::NoMemory;
 use relay_files::{RelayFault, Status};
 use relay_run::{SpoolFault, SpoolFolder};
@@ -184,36 +185,50 @@ fn say(rt: &HostRuntime, text: &str) {
     }
 }
 
-/// Writes a note for each file of a folder that is of none of these destinations, and for each of these whose name is too long
-/// for a file. Returns whether there was one.
-pub fn write_folder_notes(
+/// A note for each file of a folder that is of none of these destinations, and for each of these whose name is too long for a
+/// file.
+pub fn notes_of_folder(
     rt: &HostRuntime,
     alloc: Global,
     folder: &str,
     dests: &[Dest],
-) -> Result<bool, NoMemory> {
+) -> Result<Notes, NoMemory> {
+    let mut notes = Notes::new(alloc);
+    match add_folder_notes(rt, alloc, folder, dests, &mut notes) {
+        Ok(()) => notes.finish(),
+        Err(fault) => {
+            drop(notes);
+            Err(fault)
+        }
+    }
+}
+
+fn add_folder_notes(
+    rt: &HostRuntime,
+    alloc: Global,
+    folder: &str,
+    dests: &[Dest],
+    notes: &mut Notes,
+) -> Result<(), NoMemory> {
     let Ok(names) = rt.names_in(alloc, folder) else {
-        let _ = eprintln!(rt; "relayd: note: spool: {folder}: cannot read this folder");
-        return Ok(true);
+        notes.add(format_args!("spool: {folder}: cannot read this folder"));
+        return Ok(());
     };
-    let mut has_notes = false;
     for name in &names {
         let name = name.as_str();
         if is_of_no_destination(alloc, name, dests)? {
-            has_notes = true;
-            let _ = eprintln!(rt;
-                "relayd: note: spool: {folder}/{name}: of no destination in DESTINATIONS, so no relay sends it"
-            );
+            notes.add(format_args!(
+                "spool: {folder}/{name}: of no destination in DESTINATIONS, so no relay sends it"
+            ));
         }
     }
     drop(names);
     for dest in dests {
         if !fits_name(alloc, dest)? {
-            has_notes = true;
-            let _ = eprintln!(rt;
-                "relayd: note: spool: {dest}: too long a name for a file, so nothing of it is kept"
-            );
+            notes.add(format_args!(
+                "spool: {dest}: too long a name for a file, so nothing of it is kept"
+            ));
         }
     }
-    Ok(has_notes)
+    Ok(())
 }

@@ -1,7 +1,7 @@
 //! The paths of the files that a relay began with.
 
 use admin_client::{ReloadFiles, can_be_named, files_answer, reload_files_in};
-use command_line::Paths;
+use command_line::{Paths, STANDARD_INPUT};
 use relay_base::{NoMemory, whole_number_up_to};
 use relay_files::{LongestName, MOST_CHARACTERS};
 use std::alloc::Global;
@@ -22,9 +22,9 @@ pub fn absolute_paths(rt: &HostRuntime, alloc: Global, paths: &Paths) -> Result<
     })
 }
 
-/// A path from the root on, in this folder if it is not from the root on.
+/// A path from the root on, in this folder if it is not from the root on. Standard input has none, and stays.
 fn absolute(alloc: Global, folder: &str, path: &str) -> Result<String, NoMemory> {
-    if path.starts_with('/') {
+    if path.starts_with('/') || path == STANDARD_INPUT {
         return Ok(String::from_str(alloc, path)?);
     }
     Ok(format!(in alloc; "{}/{path}", folder.trim_end_matches('/'))?)

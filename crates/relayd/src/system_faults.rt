@@ -1,6 +1,7 @@
 //! `--explain`: notes of what a command could not open, and of a bad line of a script.
 
 use crate::explain::write;
+use crate::open_files::Files;
 use crate::relay_options;
 use crate::reread_files::RereadFile;
 use command_line::{Invocation, Paths, RunOptions};
@@ -17,26 +18,26 @@ use std::{fs, io};
 
 /// Writes notes of a fault outside the configuration.
 pub fn write_fault_notes(
-    rt: &HostRuntime,
+    files: &Files<'_>,
     alloc: Global,
     invocation: &Invocation,
     fault: RelayFault,
 ) {
     match (fault, invocation) {
         (RelayFault::CannotRead { role: Role::Names }, Invocation::RouteNames { names, .. }) => {
-            let _ = write(rt, unreadable(rt, alloc, names));
+            let _ = write(files.runtime(), unreadable(files, alloc, names));
         }
         (
             RelayFault::CannotRead { role: Role::Script },
             Invocation::Replay { script: path, .. } | Invocation::ReplayLines { lines: path, .. },
         ) => {
-            let _ = write(rt, unreadable(rt, alloc, path));
+            let _ = write(files.runtime(), unreadable(files, alloc, path));
         }
         (RelayFault::Script { line }, Invocation::Replay { script, .. }) => {
-            let _ = write(rt, script_notes(rt, alloc, script, line));
+            let _ = write(files.runtime(), script_notes(files, alloc, script, line));
         }
         (RelayFault::Listen { .. }, Invocation::Run { paths, options, .. }) => {
-            let _ = write(rt, port_notes(rt, alloc, paths, *options));
+            let _ = write(files.runtime(), port_notes(files, alloc, paths, *options));
         }
         _ => {}
     }
@@ -49,19 +50,20 @@ const HINT: &str = "relayd: note: --explain shows where the fault is, and how to
 /// system's reason, or that there are notes. Only a person at a terminal gets it, since the fault is one line for
 /// programs.
 pub fn write_hint(
-    rt: &HostRuntime,
+    files: &Files<'_>,
     alloc: Global,
     invocation: &Invocation,
     paths: &Paths,
     fault: RelayFault,
 ) {
+    let rt = files.runtime();
     if !rt.stderr().is_terminal() {
         return;
     }
     match fault {
         RelayFault::CannotRead { role } => {
             if let Some(path) = path_of(invocation, paths, role) {
-                let _ = write(rt, unreadable(rt, alloc, path));
+                let _ = write(files.runtime(), unreadable(files, alloc, path));
             }
         }
         RelayFault::Input | RelayFault::Output | RelayFault::NoMemory => {}
@@ -85,31 +87,31 @@ fn path_of<'i>(invocation: &'i Invocation, paths: &'i Paths, role: Role) -> Opti
 }
 
 /// Notes of a file that cannot be read.
-fn unreadable(rt: &HostRuntime, alloc: Global, path: &String) -> Result<Notes, NoMemory> {
-    let file = RereadFile::new(rt, alloc, path)?;
+fn unreadable(files: &Files<'_>, alloc: Global, path: &String) -> Result<Notes, NoMemory> {
+    let file = RereadFile::new(files, alloc, path)?;
     notes_of_unreadable(alloc, file.source())
 }
 
 /// Notes of a line of a script.
 fn script_notes(
-    rt: &HostRuntime,
+    files: &Files<'_>,
     alloc: Global,
     path: &String,
     line: usize,
 ) -> Result<Notes, NoMemory> {
-    let file = RereadFile::new(rt, alloc, path)?;
+    let file = RereadFile::new(files, alloc, path)?;
     notes_of_script(alloc, file.source(), line)
 }
 
 /// Notes of the ports that cannot be bound, and of too few descriptors: it binds the ports once more, in the same order.
 fn port_notes(
-    rt: &HostRuntime,
+    files: &Files<'_>,
     alloc: Global,
     paths: &Paths,
     options: RunOptions,
 ) -> Result<Notes, NoMemory> {
     let mut notes = SystemNotes::new(alloc);
-    match add_port_notes(rt, alloc, paths, options, &mut notes) {
+    match add_port_notes(files, alloc, paths, options, &mut notes) {
         Ok(()) => notes.finish(),
         Err(fault) => {
             drop(notes);
@@ -119,13 +121,14 @@ fn port_notes(
 }
 
 fn add_port_notes(
-    rt: &HostRuntime,
+    files: &Files<'_>,
     alloc: Global,
     paths: &Paths,
     options: RunOptions,
     notes: &mut SystemNotes,
 ) -> Result<(), NoMemory> {
-    let config = RereadFile::new(rt, alloc, &paths.config)?;
+    let rt = files.runtime();
+    let config = RereadFile::new(files, alloc, &paths.config)?;
     let settings = settings_of(alloc, &config);
     drop(config);
     let Some(settings) = settings else {
