@@ -37,13 +37,13 @@ _relayd() {
     esac
     local options
     case $command in
-        pass) options="--explain --moment" ;;
-        check) options="--config --rules --rewrite --longest-name --spool --explain --strict" ;;
-        route) options="--config --rules --rewrite --longest-name --names --explain" ;;
-        replay) options="--config --rules --rewrite --longest-name --lines --text --explain" ;;
+        pass) options="--explain --strict --pickle --moment" ;;
+        check) options="--config --rules --rewrite --longest-name --spool --explain --strict --json" ;;
+        route) options="--config --rules --rewrite --longest-name --names --explain --strict --json" ;;
+        replay) options="--config --rules --rewrite --longest-name --lines --text --explain --strict" ;;
         run)
             options="--config --rules --rewrite --longest-name --admin --admin-key --senders --line-receivers --idle --drain --spool --status --status-interface --log --log-format --record --explain" ;;
-        report) options="--admin --admin-key" ;;
+        report) options="--admin --admin-key --json" ;;
         stop) options="--admin --admin-key --wait" ;;
         restart) options="--config --rules --rewrite --longest-name --explain --admin --admin-key" ;;
         reload) options="--explain --admin --admin-key" ;;

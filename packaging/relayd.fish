@@ -33,6 +33,9 @@ complete -c relayd -n '__relayd_command check route replay run restart' -l longe
 complete -c relayd -n '__relayd_command pass check route replay run restart reload' -l explain -d 'Write notes to standard error'
 complete -c relayd -n '__relayd_command pass' -l moment -x -d 'The time of datapoints whose time is -1'
 complete -c relayd -n '__relayd_command check' -l strict -d 'With --explain: exit with status 1 if there is a note'
+complete -c relayd -n '__relayd_command pass route replay' -l strict -d 'Exit with status 1 if something is bad or lost'
+complete -c relayd -n '__relayd_command check route report' -l json -d 'Print objects of JSON'
+complete -c relayd -n '__relayd_command pass' -l pickle -d 'Read frames of pickles instead of lines'
 complete -c relayd -n '__relayd_command route' -l names -r -F -d 'A file of names, one per line'
 complete -c relayd -n '__relayd_command replay' -F
 complete -c relayd -n '__relayd_command replay' -l lines -r -F -d 'A file of datapoints instead of a script'
