@@ -1,6 +1,7 @@
 """`report` and `stop`: what they print of a running relay, how they wait, and their faults."""
 
 import contextlib
+import json
 import os
 import select
 import socket
@@ -55,6 +56,35 @@ class Asked(WithRelays):
             self.asks(Ran(0, report, b""), "report", "--admin", relay.admin)
             self.asks(Ran(0, report, b""), "report", f"--admin={relay.admin}")
             self.settles(relay)
+
+    def test_a_report_in_json(self):
+        """An object for each line, whose members are its words."""
+        away = [f"127.0.0.1:{port}:{name}" for port, name in zip(free_ports(2), "ab")]
+        with self.relay(away, **HASHED) as relay:
+            relay.lines(b"a 1 1\nb 2 2\n")
+            self.wait_for(lambda: relay.totals()["queued"] == 2, "both are queued")
+            words = [line.split() for line in relay.command(b"report").decode().splitlines()]
+            ran = run(("report", "--json", "--admin", str(relay.admin)))
+            self.assertEqual((ran.status, ran.err), (0, b""))
+            objects = list(map(json.loads, ran.out.splitlines()))
+            self.assertEqual([list(it) for it in objects], [line[::2] for line in words])
+            self.assertEqual([list(map(str, it.values())) for it in objects], [line[1::2] for line in words])
+            self.assertEqual([it["destination"] for it in objects], away)
+            self.assertEqual(sum(it["queued"] for it in objects), 2)
+            self.settles(relay)
+
+    def test_answers_of_others_in_json(self):
+        """A line of a later relay has more members; what has no pairs of words is no report."""
+        more = b'destination h:1:a queued 07 new 1 why "\\\x01\n'
+        with answering(more) as (port, _):
+            self.asks(Ran(0, b'{"destination":"h:1:a","queued":7,"new":1,"why":"\\"\\\\\\u0001"}\n', b""),
+                      "report", "--json", "--admin", port)
+        for answer in (b"destination h:1 queued\n", b"destination h:1 queued 1  2\n", b"destination \xff queued 1\n"):
+            with answering(answer) as (port, _):
+                self.asks(Ran(3, b"", FAULT % (port, b"no relay")), "report", "--json", "--admin", port)
+        with answering(b"destination a\n") as (port, _), open("/dev/full", "wb") as full:
+            ran = run(("report", "--json", "--admin", str(port)), stdout=full)
+            self.assertEqual((ran.status, ran.err), (3, b"relayd: output\n"))
 
     def test_a_stop(self):
         with self.relay(["127.0.0.1:1"], **HASHED) as relay:

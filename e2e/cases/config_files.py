@@ -72,7 +72,7 @@ class CannotRead(WithFiles):
             path.unlink()
 
     def test_words_that_name_no_file(self):
-        for word in ("", "-"):
+        for word in ("", "./-"):
             for role in ROLES:
                 with self.subTest():
                     words = ("check", f"--{role}={word}", *self.given(RIGHT | {role: None}))
@@ -171,7 +171,7 @@ class Whole(WithFiles):
             self.ends(("check",), Ran(0, b"ok 2 destinations\n", b""), {"config": Path(path)}, cwd=self.folder)
 
     def test_names_of_files(self):
-        for name in ("a b.conf", "\u00e4.conf", "-", "--rules", "a=b", "#", "'\"$x\\"):
+        for name in ("a b.conf", "\u00e4.conf", "./-", "--rules", "a=b", "#", "'\"$x\\"):
             (self.folder / name).write_text(SETTINGS)
             self.counts(2, config=self.folder / name)
             with self.subTest():

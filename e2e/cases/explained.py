@@ -1,6 +1,7 @@
 """`--explain`: notes on standard error, beside the same output, fault and status as without it."""
 
 import contextlib
+import json
 import os
 import pty
 import re
@@ -292,9 +293,67 @@ class OfFiles(WithFiles):
             carets = "^" * len(line)
             self.explained(("replay", str(script)), {}, ["script line 2:", f"  {line}", f"  {carets}", cure])
 
-    def test_strict_alone_is_a_wrong_word(self):
-        ran = run(("check", "--strict", *self.given({})))
-        self.assertEqual((ran.status, ran.out), (2, b""))
+    def test_strict_or_json_alone_is_a_wrong_word(self):
+        for word in ("--strict", "--json"):
+            ran = run(("check", word, *self.given({})))
+            self.assertEqual((ran.status, ran.out), (2, b""))
+
+    def objects(self, *words):
+        """The run of `check` with notes in JSON, and the objects that it prints."""
+        ran = run(("check", "--explain", "--json", *words))
+        found = list(map(json.loads, ran.out.decode().split("\n")[:-1]))
+        self.assertTrue(all(list(each) == ["file", "line", "text"] for each in found), found)
+        return ran, found
+
+    def test_in_json(self):
+        """Each note is an object on standard output, but for what shows its line; standard error has the fault alone."""
+        for files, *_ in (*FAULTY, *GOOD):
+            with self.subTest():
+                words = self.given({"rewrite": STRIPPED} | files)
+                plain, (ran, found) = run(("check", "--explain", *words)), self.objects(*words)
+                lines = plain.err.splitlines(keepends=True)
+                self.assertEqual((ran.status, ran.err), (plain.status, b"".join(it for it in lines if not it.startswith(NOTE))))
+                notes = [it[len(NOTE):-1].decode() for it in lines if it.startswith(NOTE)]
+                notes = [it for it in notes if not it.startswith("  ") and not re.search(r" line \d+:$", it)]
+                self.assertEqual(len(found), len(notes), ran.out)
+                for each, note in zip(found, notes):
+                    self.assertTrue(note.endswith(each["text"]), (each, note))
+                    self.assertIn(each["file"], (None, *words[1::2]))
+                    before = note[:-len(each["text"])]
+                    if before:
+                        self.assertEqual(re.sub(r"(\d)?[:,]? $", r"\1", before),
+                                         each["file"] + (f" line {each['line']}" if each["line"] else ""))
+
+    def test_places_in_json(self):
+        words = self.given({"config": settings(MAX_QUEUE_SIZE="10000 # big")})
+        _, found = self.objects(*words)
+        self.assertEqual(found, [{"file": words[1], "line": 5, "text": text} for text in (
+            "found `10000 # big`; expected: 1 to 1000000 in decimal digits",
+            "everything up to the end of the line is part of the value, even after `#` or `;`",
+            "cure: write a number in this range in decimal digits, and nothing after it")])
+        words = self.given({"config": ring("h:1, g:1", 3, max_queue_size=7), "rules": None})
+        _, found = self.objects(*LIMITED, *words)
+        self.assertEqual([(each["file"], each["line"]) for each in found], [(words[1], 7), (None, None)])
+        self.assertTrue(found[0]["text"].startswith("section 0 [relay]: `max_queue_size` is not a key"), found)
+        self.assertEqual(run(("check", "--explain", "--json", *LIMITED, *self.given({"rules": with_rule("a")}))), Ran(0, b"", b""))
+
+    def test_status_in_json(self):
+        """As without it; an output that is full is a fault."""
+        for spool, files, status in ((False, {"config": ring("h:2004", 1), "rules": None}, 1), (True, {"rules": with_rule("a")}, 1),
+                                     (False, {"rules": with_rule("a")}, 0), (False, {"config": self.folder / "missing"}, 3)):
+            folder = self.folder / "spool"
+            folder.mkdir(exist_ok=True)
+            (folder / "h:7").write_bytes(b"")
+            words = (*LIMITED, "--strict", *(("--spool", os.fspath(folder)) if spool else ()), *self.given(files))
+            ran, found = self.objects(*words)
+            self.assertEqual(ran.status, status)
+            self.assertEqual(bool(found), status > 0)
+            if spool:
+                self.assertEqual(found, [{"file": None, "line": None, "text":
+                                          f"spool: {folder}/h:7: of no destination in DESTINATIONS, so no relay sends it"}])
+        with open("/dev/full", "wb") as full:
+            ran = run(("check", "--explain", "--json", *self.given({"config": ring("h:2004", 1), "rules": None})), stdout=full)
+            self.assertEqual((ran.status, ran.err), (3, b"relayd: output\n"))
 
 
 class OfWholeFiles(WithFiles):

@@ -8,8 +8,10 @@ between must be reported as out of memory, wherever it happens.
 
 import contextlib
 import os
+import pickle
 import re
 import resource
+import struct
 import tempfile
 import unittest
 
@@ -111,6 +113,22 @@ class NoMemory(Suite):
         self.same(given, ran, Ran(0, given, b""))
 
 
+class NoMemoryForPickles(Suite):
+    """The same rooms for `pass --pickle`."""
+
+    def test_no_memory(self):
+        rows = [(f"host{n}.load", (1700000000, n)) for n in range(2000)]
+        texts = [pickle.dumps(rows[place:place + 100], 2) for place in range(0, len(rows), 100)]
+        frames = b"".join(struct.pack(">I", len(text)) + text for text in texts)
+        expected = Ran(0, LINES, b"")
+        for words in (("pass", "--pickle"), ("pass", "--pickle", "--explain")):
+            for room, ran in runs_in_small_rooms(expected, words, frames)[1]:
+                if ran != expected:
+                    with self.subTest():
+                        self.assertEqual((ran.status, ran.err), (4, b"relayd: no memory\n"), room)
+                        self.assertTrue(LINES.startswith(ran.out), room)
+
+
 class NoMemoryForFiles(WithFiles):
     """The same rooms for `check` and `route`: no file and no pattern is reported as bad when out of memory."""
 
@@ -147,6 +165,14 @@ class NoMemoryForFiles(WithFiles):
     def test_route_by_a_ring(self):
         files = self.files(config=ring("h:1", 2))
         self.answers_or_runs_out(b"web1.system.x h:1\n", "route", "collectd.web1.x", *files)
+
+    def test_strict_and_json(self):
+        for option, answer in (("--strict", b"web1.system.x 127.0.0.1:3002\n"),
+                               ("--json", b'{"name":"collectd.web1.x","rewritten":"web1.system.x",'
+                                          b'"destinations":["127.0.0.1:3002"],"dropped":false}\n')):
+            self.answers_or_runs_out(answer, "route", "collectd.web1.x", option, *self.files())
+        words = ("check", "--explain", "--json", *self.files(config=ring("h:2004")))
+        self.answers_or_runs_out(within(GREATEST, words, b"").out, *words)
 
     def test_a_text_that_grows_with_every_rule(self):
         """A name may become longer than any memory before the last rule has been applied."""

@@ -77,6 +77,12 @@ class Refused(Words):
                       ("pass", "--moments", "5"), ("pass", "--MOMENT", "5")):
             self.refused(*words)
 
+    def test_options_of_other_commands(self):
+        for command, options in (("pass", ("--json",)), ("replay", ("--json", "--pickle")), ("route", ("--pickle",)),
+                                 ("report", ("--strict",)), ("stop", ("--json", "--strict")), ("run", ("--json", "--strict"))):
+            for option in options:
+                self.refused(command, option)
+
     def test_words_of_other_programs_have_a_tip(self):
         stays = b"'relayd run' stays in the foreground; a supervisor such as systemd keeps it in the background"
         for words, reason, tip, usage in (

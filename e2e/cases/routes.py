@@ -1,5 +1,6 @@
 """What `route` prints: the rewritten name and its destinations."""
 
+import json
 import os
 
 from fixtures.configured import SETTINGS, WithFiles, numbered, ring, settings
@@ -206,3 +207,62 @@ class Names(WithFiles):
             with self.subTest():
                 words = ("route", *self.given({"config": ONE, "rules": None}), "--", name)
                 self.same(name, run(words), Ran(0, os.fsencode(name) + b" h:1\n", b""), words)
+
+
+class InJson(WithFiles):
+    """`--json`: an object for each name, with what the words of its line say."""
+
+    FILES = {"config": settings(DESTINATIONS="h:1, h:2:b"),
+             "rules": rules(("^both", "h:1, h:2:b", "no"), ("^none", "h:9", "no"), default="h:1"),
+             "rewrite": "[pre]\n^gone =\n^moved = both\n^odd = \"{\\\\[\n"}
+
+    def one(self, name, sent, *there):
+        """The object of a name."""
+        return {"name": name, "rewritten": sent, "destinations": list(there), "dropped": sent is None}
+
+    def objects(self):
+        """Names with their objects."""
+        for name, sent, *there in (("a", "a", "h:1"), ("both.x", "both.x", "h:1", "h:2:b"), ("moved.x", "both.x", "h:1", "h:2:b"),
+                                   ("none", "none"), ("gone", None), ("odd", '"{\\[', "h:1"), ("\u00e4\"\\", "\u00e4\"\\", "h:1"),
+                                   ("\u2028{", "\u2028{", "h:1"), ("x" * LONGEST_NAME, "x" * LONGEST_NAME, "h:1")):
+            yield self.one(name, sent, *there)
+
+    def reads(self, ran, expected, status=0, err=b""):
+        """The output is these objects, with their members in this order."""
+        self.assertEqual((ran.status, ran.err), (status, err))
+        objects = list(map(json.loads, ran.out.decode().split("\n")[:-1]))
+        self.assertEqual(objects, expected)
+        self.assertEqual([list(it) for it in objects], [list(it) for it in expected])
+
+    def test_a_name(self):
+        for expected in self.objects():
+            with self.subTest():
+                words = ("route", *self.given(self.FILES), "--json", expected["name"])
+                self.reads(run(words), [expected])
+                self.reads(run((*words, "--strict")), [expected], int(not expected["destinations"]))
+
+    def test_names(self):
+        expected = list(self.objects())
+        names = "".join(f" {it['name']}\r\n\n" for it in expected).encode()
+        words = ("route", *self.given(self.FILES), "--json", "--names", "-")
+        self.reads(run(words, names), expected)
+        self.reads(run((*words, "--strict"), names), expected, 1)
+        self.reads(run((*words, "--strict"), b"a\nboth.x"), [self.one("a", "a", "h:1"), self.one("both.x", "both.x", "h:1", "h:2:b")])
+        self.reads(run(words, b""), [])
+
+    def test_bad_names(self):
+        """They have no object, and the line that they have without the option."""
+        note = b"relayd: name: line 2: BadName\n"
+        words = ("route", *self.given(self.FILES), "--json", "--names", "-")
+        self.reads(run(words, b"a\nx y\na\n"), [self.one("a", "a", "h:1")] * 2, err=note)
+        self.reads(run((*words, "--strict"), b"a\nx y\na\n"), [self.one("a", "a", "h:1")] * 2, 1, note)
+        self.reads(run(("route", *self.given(self.FILES), "--json", "x y")), [], 1, b"relayd: name: BadName\n")
+
+    def test_faults(self):
+        for words in (("route", "a"), ("route", "--names", "-")):
+            self.ends((*words, "--json"), Ran(1, b"", b"relayd: rules: NoRules\n"), {"rules": None})
+        self.ends(("route", "--names", os.fspath(self.folder), "--json"), Ran(3, b"", b"relayd: names: cannot read\n"), {})
+        with open("/dev/full", "wb") as full:
+            for words in (("a",), ("--names", "-")):
+                ran = run(("route", "--json", *words, *self.given({})), b"a\n", stdout=full)
+                self.assertEqual((ran.status, ran.err), (3, b"relayd: output\n"))
