@@ -25,7 +25,11 @@ pub struct JsonRoutes {
 
 impl JsonRoutes {
     /// Reads the files at these paths. It ends with their first fault, as `route` does.
-    pub fn read(files: &Files<'_>, alloc: Global, paths: &Paths) -> Result<JsonRoutes, RelayFault> {
+    pub fn read<'a>(
+        files: &'a Files<'a>,
+        alloc: Global,
+        paths: &'a Paths,
+    ) -> Result<JsonRoutes, RelayFault> {
         let mut sources = sources_at(files, alloc, paths)?;
         let read = Configuration::read(alloc, &mut sources);
         drop(sources);

@@ -94,8 +94,8 @@ fn main(rt: HostRuntime) -> ExitCode {
 
 /// Runs a command on the standard streams. `threads` starts the relay's threads, and is the runtime too:
 /// only the program's first function has it with threads in it.
-fn run<R>(
-    files: &Files<'_>,
+fn run<'a, R>(
+    files: &'a Files<'a>,
     threads: &R,
     alloc: Global,
     invocation: &'a Invocation,
@@ -238,10 +238,10 @@ fn relay_options(options: command_line::RunOptions) -> RunOptions {
 }
 
 /// Checks the files at these paths. With notes as JSON, standard output has nothing else.
-fn run_check(
-    files: &Files<'_>,
+fn run_check<'a>(
+    files: &'a Files<'a>,
     alloc: Global,
-    paths: &Paths,
+    paths: &'a Paths,
     form: OutputForm,
 ) -> Result<Status, RelayFault> {
     let mut sources = sources_at(files, alloc, paths)?;

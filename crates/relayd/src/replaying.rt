@@ -10,11 +10,11 @@ use relay_files::{RelayFault, Role, Status};
 use std::alloc::Global;
 
 /// Replays the script at a path.
-pub fn run_replay(
-    files: &Files<'_>,
+pub fn run_replay<'a>(
+    files: &'a Files<'a>,
     alloc: Global,
-    paths: &Paths,
-    script: &String,
+    paths: &'a Paths,
+    script: &'a String,
     form: HandedForm,
     is_strict: bool,
 ) -> Result<Status, RelayFault> {
@@ -34,11 +34,11 @@ pub fn run_replay(
 }
 
 /// Replays the lines of the file at a path.
-pub fn run_replay_lines(
-    files: &Files<'_>,
+pub fn run_replay_lines<'a>(
+    files: &'a Files<'a>,
     alloc: Global,
-    paths: &Paths,
-    lines: &String,
+    paths: &'a Paths,
+    lines: &'a String,
     form: HandedForm,
     is_strict: bool,
 ) -> Result<Status, RelayFault> {

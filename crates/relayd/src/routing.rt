@@ -12,10 +12,10 @@ use relay_files::{RelayFault, Role, Status, flush};
 use std::alloc::Global;
 
 /// Routes a name to standard output.
-pub fn run_route(
-    files: &Files<'_>,
+pub fn run_route<'a>(
+    files: &'a Files<'a>,
     alloc: Global,
-    paths: &Paths,
+    paths: &'a Paths,
     name: &String,
     wanted: RouteOutput,
 ) -> Result<Status, RelayFault> {
@@ -42,11 +42,11 @@ pub fn run_route(
 }
 
 /// Routes the names of a file to standard output, and reports the bad ones on standard error.
-pub fn run_route_names(
-    files: &Files<'_>,
+pub fn run_route_names<'a>(
+    files: &'a Files<'a>,
     alloc: Global,
-    paths: &Paths,
-    names: &String,
+    paths: &'a Paths,
+    names: &'a String,
     wanted: RouteOutput,
 ) -> Result<Status, RelayFault> {
     let rt = files.runtime();

@@ -24,10 +24,10 @@ pub struct StrictFiles {
 
 impl StrictFiles {
     /// Reads the files at these paths. It ends with their first fault, as the command does.
-    pub fn read(
-        files: &Files<'_>,
+    pub fn read<'a>(
+        files: &'a Files<'a>,
         alloc: Global,
-        paths: &Paths,
+        paths: &'a Paths,
     ) -> Result<StrictFiles, RelayFault> {
         let mut sources = sources_at(files, alloc, paths)?;
         let read = Configuration::read(alloc, &mut sources);
@@ -127,11 +127,11 @@ fn first_moment() -> Moment {
 }
 
 /// The bytes of the file of names, of the script or of the lines at a path.
-pub fn input_at(
-    files: &Files<'_>,
+pub fn input_at<'a>(
+    files: &'a Files<'a>,
     alloc: Global,
     role: Role,
-    path: &String,
+    path: &'a String,
 ) -> Result<Vec<u8>, RelayFault> {
     let mut source = file_at(files, path);
     let read = read_source(alloc, role, &mut source);
