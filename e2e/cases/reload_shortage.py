@@ -1,13 +1,22 @@
-"""`relayd reload` beside a log that nobody reads, a slow disk, and look-ups that hang; and an output without room."""
+"""`relayd reload` beside a log that nobody reads, a slow disk, and look-ups that hang, and where threads, descriptors or memory
+are short; and an output without room."""
 
+import collections
+import contextlib
 import fcntl
 import os
+import re
 import resource
+import shutil
+import socket
+import subprocess
 import termios
 import threading
 import time
+import unittest
+from unittest import mock
 
-from fixtures.harness import LIMIT, held
+from fixtures.harness import LIMIT, Ran, Settings, held
 from fixtures.refused import compiled
 from fixtures.reloading import ALL, RELOADED, Reloads, numbered, text_of
 from fixtures.running import Relay
@@ -17,6 +26,13 @@ PIPE_ROOM = 4_096
 REFUSING = 60  # stores that refuse: more lines than the pipe has room for
 NAMES = 10  # of hosts that are looked up without an end
 RELOAD_COUNT = 12
+USER = 64_321  # a user that runs nothing else
+FEW = 64  # descriptors of a relay that needs more
+ROOMS = range(4, 40)  # of descriptors, of which the least do not do and the greatest do
+MEMORY_ROOMS = (0, 1, 8, 24, 40, 52, 54, 56, 58, 64, 80, 116, 128)  # in MiB
+NO_THREADS = Ran(3, b"", b"relayd: no threads\n")
+NO_DESCRIPTORS = Ran(3, b"", b"relayd: no descriptors\n")
+NO_MEMORY = Ran(4, b"", b"relayd: no memory\n")
 
 
 def unread(pipe):
@@ -26,13 +42,13 @@ def unread(pipe):
     return int.from_bytes(room, "little")
 
 
-class Shortage(Reloads):
-    """What a reload does not wait for, and what does not end the relay."""
+class Strained(Reloads):
+    """A relay whose system may be slow or short."""
 
     def starved(self):
         """What a relay does before it begins, so that the system is slow or short while the case wants it."""
         library = compiled(os.fspath(self.folder), "starved")
-        switches = {"SLOW_SYNCS": self.path("SLOW_SYNCS")}
+        switches = {name: self.path(name) for name in ("SLOW_SYNCS", "NO_THREADS")}
         return lambda: os.environ.update(LD_PRELOAD=library, **switches)
 
     def switch(self, name):
@@ -40,12 +56,19 @@ class Shortage(Reloads):
         with open(self.path(name), "wb"):
             pass
 
-    def goes_on(self, relay, store, lines):
-        """The relay sends these lines, and answers."""
+    def goes_on(self, relay, store, lines, stream=None):
+        """The relay sends these lines, which come over a connection of their own or this one, and answers."""
         before = len(store.lines())
-        relay.lines(text_of(lines))
+        if stream:
+            stream.sendall(text_of(lines))
+        else:
+            relay.lines(text_of(lines))
         self.wait_for(lambda: store.lines()[before:] == lines, "the lines have come")
         self.assertTrue(relay.report())
+
+
+class Shortage(Strained):
+    """What a reload does not wait for, and what does not end the relay."""
 
     def test_nobody_reads_the_log(self):
         """Standard error is a full pipe: neither reloads nor the end of the relay wait for its reader."""
@@ -81,8 +104,8 @@ class Shortage(Reloads):
             self.wait_for(lambda: unread(reading) > PIPE_ROOM - 200, "the pipe is full")
             self.reloads(relay, dests, ALL.format(live))
             lines = [log.readline() for _ in range(REFUSING + 2)]
-            refused = b": connection refused (error 111)\n"
-            self.assertEqual(sum(line.endswith(refused) for line in lines), REFUSING)
+            refused = re.compile(rb"destination (\S+) cannot connect to \1: connection refused \(error 111\)\n")
+            self.assertEqual(sum(refused.fullmatch(line) is not None for line in lines), REFUSING)
             self.assertIn(b"relay reloaded: same rules and rewriting\n", [*lines, log.readline()])
             relay.command(b"stop")
             self.assertEqual(relay.child.wait(LIMIT), 0)
@@ -98,7 +121,7 @@ class Shortage(Reloads):
             self.goes_on(relay, there, lines)
             self.switch("SLOW_SYNCS")
             self.reloads(relay, [live])
-            self.wait_for(lambda: f"{away}~new" in os.listdir(spool), "the file is written")
+            self.wait_for(lambda: away in os.listdir(spool), "the file is written")
             ended = []
             second = threading.Thread(target=lambda: ended.append(self.reload(relay)), daemon=True)
             second.start()
@@ -122,7 +145,7 @@ class Shortage(Reloads):
             self.goes_on(relay, there, numbered(50))
             self.switch("SLOW_SYNCS")
             self.reloads(relay, [live])
-            self.wait_for(lambda: f"{away}~new" in os.listdir(spool), "the file is written")
+            self.wait_for(lambda: away in os.listdir(spool), "the file is written")
             second = threading.Thread(target=self.reload, args=(relay,), daemon=True)
             second.start()
             time.sleep(0.3)
@@ -152,6 +175,206 @@ class Shortage(Reloads):
             self.assertLessEqual(len(relay.thread_names()), threads)
             self.goes_on(relay, store, numbered(20, b"b"))
             self.stops(relay)
+
+
+class Short(Strained):
+    """The system has too little for a reload: its answer names that, and the run goes on as it was."""
+
+    @contextlib.contextmanager
+    def one(self, **how):
+        """A relay with one store, and that store, which has some lines."""
+        store, = self.stores(1)
+        with self.running([f"127.0.0.1:{store.port}"], **how) as relay:
+            self.goes_on(relay, store, numbered(100))
+            yield relay, store
+            self.stops(relay)
+
+    def stays(self, relay, store, refusal, stream=None):
+        """A reload is refused so, and changes nothing."""
+        before, connections = relay.totals(), store.connections()
+        self.assertEqual(self.reload(relay), refusal)
+        self.assertEqual((relay.totals(), store.connections()), (before, connections))
+        self.goes_on(relay, store, numbered(20, b"stays"), stream)
+
+    def is_done(self, relay, store, stream=None):
+        """A reload is done, and no connection is lost."""
+        connections = store.connections()
+        self.assertEqual(self.reload(relay), RELOADED)
+        self.goes_on(relay, store, numbered(20, b"done"), stream)
+        self.assertEqual(store.connections(), connections)
+
+    def crowd(self, relay, count, stack):
+        """This many connections of producers."""
+        return [stack.enter_context(socket.create_connection(("127.0.0.1", relay.line), LIMIT)) for _ in range(count)]
+
+    @contextlib.contextmanager
+    def limited(self, relay, what, limit):
+        """The process of a relay has another limit of this kind."""
+        usual = resource.prlimit(relay.child.pid, what)
+        resource.prlimit(relay.child.pid, what, (limit, usual[1]))
+        try:
+            yield
+        finally:
+            resource.prlimit(relay.child.pid, what, usual)
+
+    def test_no_thread_begins(self):
+        with self.one(before=self.starved()) as (relay, store):
+            self.switch("NO_THREADS")
+            for _ in range(3):
+                self.stays(relay, store, NO_THREADS)
+            os.remove(self.path("NO_THREADS"))
+            self.is_done(relay, store)
+
+    @unittest.skipIf(os.geteuid(), "only root can be another user")
+    def test_a_limit_of_threads(self):
+        """One thread more does for a reload, and another for each new name that is looked up."""
+        program = self.path("relayd")
+        shutil.copy(Settings.relayd, program)
+        os.chmod(self.folder, 0o755)
+
+        def become():
+            os.setgroups([])
+            os.setgid(USER)
+            os.setuid(USER)
+
+        with mock.patch.object(Settings, "relayd", program), self.one(before=become) as (relay, store):
+            dests = [f"127.0.0.1:{store.port}"]
+            names = [*dests, "a.invalid:2003", "b.invalid:2003"]
+            threads = len(relay.thread_names())
+
+            def limit(most):
+                """Its user may have this many threads. Without a right that a container lacks, only that user can say so."""
+                subprocess.run(("prlimit", f"--nproc={most}:", "--pid", str(relay.child.pid)), check=True,
+                               user=USER, group=USER, extra_groups=[])
+
+            for most in (threads - 1, threads):
+                limit(most)
+                self.stays(relay, store, NO_THREADS)
+            limit(threads + 1)
+            self.is_done(relay, store)
+            self.files(relay, names, ALL.format(dests[0]))
+            self.stays(relay, store, NO_THREADS)
+            limit(threads + 2)
+            self.stays(relay, store, NO_THREADS)
+            limit(threads + 3)
+            self.assertEqual(self.reload(relay), RELOADED)
+            self.goes_on(relay, store, numbered(20, b"names"))
+            self.assertEqual(len(relay.thread_names()), threads + 2)
+
+    def test_producers_hold_all_descriptors(self):
+        """While they do so a reload is refused, and their connections go on; once some have gone it is done."""
+        def few():
+            resource.setrlimit(resource.RLIMIT_NOFILE, (FEW, FEW))
+
+        with self.one(before=few) as (relay, store), contextlib.ExitStack() as others:
+            stream, = self.crowd(relay, 1, others)
+            self.goes_on(relay, store, numbered(20, b"first"), stream)
+            with contextlib.ExitStack() as producers:
+                self.crowd(relay, FEW, producers)
+                self.wait_for(lambda: relay.descriptors() >= FEW - 4, "producers have all that they get")
+                for _ in range(3):
+                    self.stays(relay, store, NO_DESCRIPTORS, stream)
+            self.wait_for(lambda: relay.descriptors() < FEW / 2 + 4, "they have gone")
+            self.is_done(relay, store, stream)
+
+    def test_a_limit_of_descriptors_that_is_lowered(self):
+        """With each limit a reload is refused or done, and the connections of producers go on."""
+        with self.one() as (relay, store), contextlib.ExitStack() as producers:
+            for stream in self.crowd(relay, 30, producers):
+                self.goes_on(relay, store, numbered(1), stream)
+            ends = []
+            for room in ROOMS:
+                taken = max(map(int, os.listdir(f"/proc/{relay.child.pid}/fd"))) + 1
+                with self.subTest(room=room), self.limited(relay, resource.RLIMIT_NOFILE, taken + room):
+                    if self.reload(relay) != RELOADED:
+                        self.stays(relay, store, NO_DESCRIPTORS, stream)
+                        ends.append(False)
+                    else:
+                        self.goes_on(relay, store, numbered(1), stream)
+                        ends.append(True)
+            self.assertEqual((ends[0], ends[-1]), (False, True))
+            self.is_done(relay, store, stream)
+
+    def test_files_of_new_stores_and_a_store_that_is_gone(self):
+        """Their descriptors are tried too: however many are free the relay goes on, and all datapoints arrive or are in files."""
+        ends = []
+        for free in ROOMS[::4]:
+            with self.subTest(free=free), contextlib.ExitStack() as at_end:
+                ends.append(self.changes(free, at_end))
+        self.assertEqual((ends[0], ends[-1]), (NO_DESCRIPTORS, RELOADED))
+
+    def changes(self, free, at_end):
+        """What becomes of a reload, while about so many descriptors are free, that takes a store out for which something is queued,
+        and adds some with files."""
+        def few():
+            resource.setrlimit(resource.RLIMIT_NOFILE, (2 * FEW, 2 * FEW))
+
+        kept, *added = self.stores(4)
+        live, gone = f"127.0.0.1:{kept.port}", f"127.0.0.1:{free_ports(1)[0]}"
+        new = [f"127.0.0.1:{store.port}" for store in added]
+        spool = self.path(f"spool{free}")
+        os.mkdir(spool)
+        for name in new:
+            with open(os.path.join(spool, name), "wb") as file:
+                file.write(text_of(numbered(10)))
+        options = ("--spool", spool, "--drain", "1")
+        with self.running([live, gone], options=options, before=few) as relay:
+            stream, = self.crowd(relay, 1, at_end)
+            self.goes_on(relay, kept, numbered(50), stream)
+            taken = 2 * FEW - free
+            self.crowd(relay, taken - relay.descriptors(), at_end)
+            self.wait_for(lambda: relay.descriptors() >= taken - 2, "the others are taken")
+            self.files(relay, [live, *new])
+            ran = self.reload(relay)
+            self.assertIn(ran, (RELOADED, NO_DESCRIPTORS))
+            self.goes_on(relay, kept, numbered(50, b"b"), stream)
+            at_end.close()
+            self.reloads(relay, [live, *new])
+            for store in added:
+                self.wait_for(lambda it=store: it.lines()[:10] == numbered(10), "the file is sent")
+            self.stops(relay)
+        with open(os.path.join(spool, gone), "rb") as file:
+            lines = file.read().splitlines()
+        self.assertEqual(lines, (numbered(50) + numbered(50, b"b"))[:len(lines)])
+        self.assertGreaterEqual(len(lines), 50)
+        return ran
+
+    def test_a_limit_of_memory_that_is_lowered(self):
+        """With each limit a reload is refused or done, and the relay goes on."""
+        ends = collections.Counter()
+        for room in MEMORY_ROOMS:
+            with self.subTest(room=room), self.one() as (relay, store):
+                with open(f"/proc/{relay.child.pid}/statm", encoding="ascii") as file:
+                    taken = int(file.read().split()[0]) * resource.getpagesize()
+                with self.limited(relay, resource.RLIMIT_AS, taken + (room << 20)):
+                    for turn in range(5):
+                        ran = self.reload(relay)
+                        self.assertIn(ran, (RELOADED, NO_MEMORY), turn)
+                        ends[ran.status] += 1
+                        self.assertTrue(relay.report())
+                self.goes_on(relay, store, numbered(20, b"stays"))
+                self.is_done(relay, store)
+        print(f"\nreloads with little memory: {dict(ends)}", flush=True)
+
+    def test_look_ups_leave_descriptors(self):
+        """Where producers and look-ups that hang take all that they get, the relay goes on, answers, and is stopped."""
+        starved = self.starved()
+
+        def few():
+            starved()
+            resource.setrlimit(resource.RLIMIT_NOFILE, (FEW, FEW))
+
+        store, = self.stores(1)
+        live = f"127.0.0.1:{store.port}"
+        dests = [live, *(f"host{number}.hangs.invalid:2003" for number in range(NAMES))]
+        with self.running(dests, ALL.format(live), before=few) as relay, contextlib.ExitStack() as producers:
+            stream, *_ = self.crowd(relay, FEW, producers)
+            self.wait_for(lambda: relay.descriptors() >= FEW - 4, "all descriptors are taken")
+            for turn in range(RELOAD_COUNT):
+                self.assertEqual(self.reload(relay), NO_DESCRIPTORS)
+                self.goes_on(relay, store, numbered(20, b"turn%d" % turn), stream)
+            self.stops(relay)
+
 
 class FullOutput(Reloads):
     """Standard output is a file that may not grow."""

@@ -29,6 +29,7 @@ use std::alloc::Global;
 use std::net::Net;
 use std::rt::Clock;
 use std::sync::{Arc, Wait};
+use std::thread::Threads;
 
 /// How many milliseconds a turn waits at most while there is no connection.
 const PAUSE_MS: u64 = 1_000;
@@ -164,7 +165,7 @@ struct Reading {
 }
 
 /// Answers commands until one is `stop`, or until another run is ready to follow, which is returned.
-fn answer_until_ended<B: Set, R: Wait + Clock + Net + SpoolDisk, F: ReloadSource>(
+fn answer_until_ended<B: Set, R: Wait + Clock + Net + SpoolDisk + Threads, F: ReloadSource>(
     rt: &R,
     alloc: Global,
     relay: &Relay<B>,
@@ -278,7 +279,7 @@ fn read_for<F: ReloadSource>(
 }
 
 /// Makes ready the run of the configuration that was read, or says why not.
-fn next_run<B: Set, R: SpoolDisk>(
+fn next_run<B: Set, R: SpoolDisk + Net + Threads>(
     rt: &R,
     alloc: Global,
     relay: &Relay<B>,
@@ -327,11 +328,13 @@ fn refuse(
     }
 }
 
-impl<B: Set, R: Wait + Clock + Net + SpoolDisk, L: Drop, F: ReloadSource, K: Recorder> FirstWork<
-    R,
-    LogEnd<L>,
-    StatusServer,
-> for AdminPort<'_, B, L, F, K> {
+impl<
+    B: Set,
+    R: Wait + Clock + Net + SpoolDisk + Threads,
+    L: Drop,
+    F: ReloadSource,
+    K: Recorder,
+> FirstWork<R, LogEnd<L>, StatusServer> for AdminPort<'_, B, L, F, K> {
     ghost is_first = { λ port. is_none port.state.now.before.waiting };
 
     fn is_first(&self) -> bool {

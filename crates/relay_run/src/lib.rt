@@ -48,6 +48,7 @@ mod sender_setup;
 mod shape;
 mod shared_listener;
 mod shared_stream;
+mod shortage;
 mod spool_connector;
 mod spool_folder;
 mod spool_left;

@@ -5,6 +5,7 @@ ghost use Rattle.std.specs.Prelude.{◌≤◌};
 use crate::listeners::{BoundPort, FirstPorts};
 use crate::relay::Relay;
 use crate::reload_source::RefusedReload;
+use crate::shortage::{Needs, Shortage, try_needs};
 use crate::spool_folder::{SpoolFolder, open_new_files};
 use admin_client::Refusal;
 use conf_text::{Dest, Setting, Settings};
@@ -16,6 +17,8 @@ use relay_base::{DestId, MOST_DESTINATIONS, NoMemory, add};
 use relay_files::{RelayFault, RunConfiguration};
 use spool::{OpenFault, SpoolDisk, SpoolFiles};
 use std::alloc::Global;
+use std::net::Net;
+use std::thread::Threads;
 
 /// A run that is to follow the one that runs, and room for what that leaves.
 #[derive(Drop)]
@@ -38,9 +41,9 @@ pub(crate) struct NextPlan {
     pub(crate) connection: u64,
 }
 
-/// Makes ready what a run by a configuration needs before the one that runs ends. Refuses another setting of a port, and what
-/// the system refuses; then nothing has changed.
-pub(crate) fn prepared_by<B: Set, R: SpoolDisk>(
+/// Makes ready what a run by a configuration needs before the one that runs ends, and tries what can be made only then. Refuses
+/// another setting of a port, and what the system refuses or is short of; then nothing has changed.
+pub(crate) fn prepared_by<B: Set, R: SpoolDisk + Net + Threads>(
     rt: &R,
     alloc: Global,
     relay: &Relay<B>,
@@ -64,11 +67,15 @@ pub(crate) fn prepared_by<B: Set, R: SpoolDisk>(
         );
         return Err(refused(alloc, Refusal::Device, text));
     }
+    if let Err(shortage) = try_needs(rt, alloc, Needs::of(relay, &configuration)) {
+        drop(configuration);
+        return Err(refused_for(alloc, shortage));
+    }
     let receivers = match ports.for_receivers(alloc) {
         Ok(receivers) => receivers,
         Err(fault) => {
             drop(configuration);
-            return Err(refused_for(alloc, fault));
+            return Err(refused_for(alloc, shortage_of(fault)));
         }
     };
     let made = match made_ready(rt, alloc, relay, &configuration, folder) {
@@ -229,11 +236,19 @@ fn needs_restart(alloc: Global, setting: Setting) -> RefusedReload {
     )
 }
 
-/// The refusal for a fault of the system.
-fn refused_for(alloc: Global, fault: RelayFault) -> RefusedReload {
+/// What the system was short of for another one of a port, which is bound already.
+fn shortage_of(fault: RelayFault) -> Shortage {
     match fault {
-        RelayFault::NoMemory => RefusedReload::no_memory(alloc),
-        fault => refused(alloc, Refusal::Device, format!(in alloc; "{fault}\n")),
+        RelayFault::NoMemory => Shortage::Memory,
+        _ => Shortage::Descriptors,
+    }
+}
+
+/// The refusal for what the system is short of.
+fn refused_for(alloc: Global, shortage: Shortage) -> RefusedReload {
+    match shortage {
+        Shortage::Memory => RefusedReload::no_memory(alloc),
+        shortage => refused(alloc, Refusal::Device, format!(in alloc; "{shortage}\n")),
     }
 }
 
