@@ -92,7 +92,7 @@ class LastLines(WithRelays):
 
     def test_a_store_that_does_not_close(self):
         """Behind a long line it has a second, and then the next connection begins; the long line is not sent again."""
-        store, = self.stores(1)
+        store, = self.stores(1, closes=False)
         dest = f"127.0.0.1:{store.port}"
         with self.relay([dest], ALL.format(dest)) as relay:
             relay.pickles(pickle.dumps([(BY_PICKLE, (1, 1)), ("honest.line", (1, 2))], 2))

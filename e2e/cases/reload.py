@@ -265,7 +265,7 @@ class Connections(Reloads):
             self.assertIn(b"relay stopped, 0 datapoints not sent\n", relay.log.lines)
 
     def test_a_spool_that_is_being_sent(self):
-        """The file of an earlier run goes on where it was, and what came since is behind it."""
+        """The file of an earlier run goes on where it was, over its connection, and what came since is behind it."""
         folder = self.path("spool")
         os.mkdir(folder)
         store, = self.stores(1, reads=False, room=4096)
@@ -281,8 +281,7 @@ class Connections(Reloads):
                 self.reloads(relay, dests)
             store.read_on()
             self.wait_for(lambda: len(store.lines()) == len(LONG) + 100, "all lines have come")
-            self.assertEqual(store.lines(), LONG + later)
-            self.assertEqual(store.connections(), 1)
+            self.assertEqual([bytes(taken) for taken in store.taken], [text_of(LONG), text_of(later)])
             self.stops(relay)
         self.assertEqual(os.listdir(folder), ["~lock"])
 

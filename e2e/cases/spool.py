@@ -5,8 +5,11 @@ import ctypes
 import http.client
 import json
 import os
+import shutil
+import signal
 import subprocess
 import threading
+import unittest
 
 from fixtures.harness import LIMIT, Ran, run
 from fixtures.log import Log
@@ -105,11 +108,12 @@ class Spool(WithSpool):
         store.read_on()
         with self.spooling([dest]) as relay:
             self.wait_for(lambda: store.lines() == LONG + more, "the store has all, once, in order")
+            self.wait_for(lambda: self.files() == [], "the file is gone")
             self.settles(relay)
         self.assertEqual(self.files(), [])
 
     def test_a_store_that_goes_while_the_file_is_sent(self):
-        """The next connection begins with a whole line, and no line is missing."""
+        """The next connection gets all lines, also those that the store did not read from the first one."""
         store, dest = self.store_that_reads_nothing()
         self.write(dest, text_of(LONG))
         with self.spooling([dest]) as relay:
@@ -118,8 +122,7 @@ class Spool(WithSpool):
             self.wait_for(store.is_connected, "it is connected again")
             store.read_on()
             self.wait_for(lambda: store.lines()[-1:] == LONG[-1:], "the last line has come")
-            second = bytes(store.taken[-1]).split(b"\n")[:-1]
-            self.assertEqual(second, LONG[len(LONG) - len(second):])
+            self.assertEqual(bytes(store.taken[1]), text_of(LONG))
             self.settles(relay)
 
     # ---- beside other options
@@ -169,6 +172,7 @@ class Spool(WithSpool):
         with self.spooling(dests, "--senders", "2") as relay:
             for store in stores:
                 self.wait_for(lambda it=store: it.lines() == lines, "each store has its own")
+            self.wait_for(lambda: self.files() == [], "the files are gone")
             self.settles(relay)
         self.assertEqual(self.files(), [])
 

@@ -215,6 +215,7 @@ class OpeningFiles(WithSpool):
                 with self.spooling([dest], "--log") as relay:
                     log = Log(relay.child.stderr)
                     self.wait_for(lambda it=held + left, at=before: store.lines()[at:] == it, "both are sent, in order")
+                    self.wait_for(lambda: [name for name in self.files() if "~aside" not in name] == [], "they are gone")
                     self.ends(relay)
                     log.thread.join(LIMIT)
                 self.assertTrue(any(line.startswith(b"spool: " + self.path(dest).encode() + b"~new: ") for line in log.lines))

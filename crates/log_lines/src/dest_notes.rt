@@ -100,7 +100,7 @@ impl DestNotes {
     }
 
     /// A connection was made, at these milliseconds of the sender's clock.
-    pub fn note_connected(&self, millis: u64) {
+    fn note_connected(&self, millis: u64) {
         self.has_failed.store(false, Ordering::SeqCst);
         self.since.store(millis, Ordering::SeqCst);
         self.is_down_noted.store(false, Ordering::SeqCst);
@@ -108,7 +108,8 @@ impl DestNotes {
         let _before = self.made.fetch_add(1, Ordering::SeqCst);
     }
 
-    /// A connection goes on here. It counts as made at these milliseconds of the sender's clock, unless one is up.
+    /// A connection goes on here, or follows one that is no loss. It counts as made at these milliseconds of the sender's clock,
+    /// unless one is up.
     pub fn note_kept(&self, millis: u64) {
         if !self.is_up() {
             self.note_connected(millis);
@@ -116,9 +117,9 @@ impl DestNotes {
     }
 
     /// There is no connection, at these milliseconds of the sender's clock. Does nothing if that was noted since
-    /// the last connection.
+    /// the last connection, or if that is no loss.
     pub fn note_down(&self, millis: u64) {
-        if !self.is_down_noted.load(Ordering::SeqCst) {
+        if !self.is_up() && !self.is_down_noted.load(Ordering::SeqCst) {
             self.since.store(millis, Ordering::SeqCst);
             self.is_down_noted.store(true, Ordering::SeqCst);
         }

@@ -20,6 +20,7 @@ mod end_orders;
 mod end_waits;
 mod ended_run;
 mod ending;
+mod file_end;
 mod first_work;
 mod gone_dests;
 mod inherited;

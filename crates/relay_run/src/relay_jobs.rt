@@ -15,7 +15,7 @@ use crate::thread_jobs::{Jobs, all_jobs};
 use locked_queues::Set;
 use relay_base::NoMemory;
 use relay_files::RelayFault;
-use relay_watchers::{LogJob, ReceiverLog, StatusJob, Watched, watchers_of};
+use relay_watchers::{GoneSources, LogJob, ReceiverLog, StatusJob, Watched, watchers_of};
 use senders::HostThreads;
 use std::alloc::Global;
 use std::io::Write;
@@ -98,7 +98,10 @@ fn watching_of<'x, B: Set, R, L: Write + Drop>(
     let watched = Watched {
         queues: &relay.queues,
         noted: relay.noted(),
-        gone: relay.gone.shown.as_slice(),
+        gone: GoneSources {
+            dests: relay.gone.shown.as_slice(),
+            files: relay.gone.files.as_slice(),
+        },
         late_news: &relay.late_news,
         size: relay.shape.size,
         version: relay.shape.version(),

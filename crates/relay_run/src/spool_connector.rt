@@ -5,6 +5,7 @@ ghost use Rattle.std.specs.Prelude.{◌≡◌, IfErr};
 use crate::dest_list::copy_list;
 use crate::dest_slots::DestSlots;
 use crate::end_orders::EndOrders;
+use crate::file_end::{FileEnd, PartEnd};
 use crate::left_dest::socket_of;
 use crate::rest_files::RestFiles;
 use crate::sender_places::Share;
@@ -13,7 +14,7 @@ use handover::Rest;
 use mio_loops::ReadinessFault;
 use relay_base::{DestId, MOST_DESTINATIONS, NoMemory, add};
 use run_state::Signals;
-use senders::{Connect, KeptSocket};
+use senders::{Connect, HalfClose, KeptSocket, StoreEnd};
 use spool::{DestSpool, FileConnection, FileSink, SpoolDisk, SpoolNotes, Turn};
 use std::alloc::Global;
 use std::io;
@@ -32,11 +33,13 @@ pub(crate) struct SenderSpool<'n, W> {
     notes: &'n [SpoolNotes],
 }
 
-/// A destination: its files, until these are its last connection, and the connection that its earlier file goes out on.
+/// A destination: its files, until these are its last connection, the connection that its earlier file goes out on, and the one
+/// that took a part of that, until its store has ended it.
 #[derive(Drop)]
 struct SpooledDest<W> {
     spool: Option<DestSpool>,
     connection: FileConnection<W>,
+    end: Option<FileEnd<W>>,
 }
 
 impl<'n, W: Drop> SenderSpool<'n, W> {
@@ -54,6 +57,7 @@ impl<'n, W: Drop> SenderSpool<'n, W> {
             let dest = SpooledDest {
                 spool: None,
                 connection: FileConnection::new(),
+                end: None,
             };
             add(&mut dests, dest)?;
         }
@@ -68,7 +72,8 @@ impl<'n, W: Drop> SenderSpool<'n, W> {
     /// From now on these are the files of a destination. The connection that the earlier one went out on goes on, if it is
     /// there.
     pub(crate) fn begin(&mut self, place: usize, files: Option<DestSpool>, sink: Option<W>) {
-        note_behind(self.notes.get(place), &files);
+        let notes = self.notes.get(place);
+        note_behind(notes, &files);
         let Some(state) = self.dests.get_mut(place) else {
             drop((files, sink));
             return;
@@ -76,7 +81,7 @@ impl<'n, W: Drop> SenderSpool<'n, W> {
         let mut files = files;
         match sink {
             Some(sink) => state.connection.keep(sink),
-            None => reconnect(&mut files),
+            None => reconnect(&mut files, notes),
         }
         state.spool = files;
     }
@@ -85,14 +90,18 @@ impl<'n, W: Drop> SenderSpool<'n, W> {
     fn take(&mut self, place: usize) -> Option<(DestSpool, Option<W>)> {
         let state = self.dests.get_mut(place)?;
         let files = state.spool.take()?;
-        Some((files, state.connection.take()))
+        let sink = match state.end.take() {
+            Some(end) => Some(end.into_sink()),
+            None => state.connection.take(),
+        };
+        Some((files, sink))
     }
 }
 
-/// The connection that the earlier file of a destination went out on is gone.
-fn reconnect(files: &mut Option<DestSpool>) {
+/// The connection that the earlier file of a destination went out on is closed.
+fn reconnect(files: &mut Option<DestSpool>, notes: Option<&SpoolNotes>) {
     if let Some(files) = files {
-        files.reconnect();
+        files.reconnect(notes);
     }
 }
 
@@ -106,8 +115,8 @@ fn note_behind(notes: Option<&SpoolNotes>, spool: &Option<DestSpool>) {
 }
 
 /// Connects through another connector. While the file of an earlier run holds lines for a destination, it keeps the
-/// connection for itself and sends the file, so that the destination is not connected for others before. Once a
-/// destination is spooled, it reports its connection as closed, and the next one is its new file.
+/// connections for itself and sends the file, a part by each, so that the destination is not connected for others before. Once
+/// a destination is spooled, it reports its connection as closed, and the next one is its new file.
 ///
 /// Without a spool it connects as the other connector does.
 #[derive(Drop)]
@@ -123,7 +132,10 @@ pub(crate) struct SpoolConnector<'n, 's, N: Connect, D> {
     ready: [DestId; MOST_DESTINATIONS],
 }
 
-impl<'n, 's, N: Connect, D: SpoolDisk + Copy + Drop> SpoolConnector<'n, 's, N, D> {
+impl<'n, 's, N: Connect, D: SpoolDisk + Copy + Drop> SpoolConnector<'n, 's, N, D>
+where
+    N::Sink: HalfClose,
+{
     /// Connects through `connector` to a sender's share, and reaches the files by `disk`.
     pub(crate) fn new(
         connector: N,
@@ -161,13 +173,20 @@ impl<'n, 's, N: Connect, D: SpoolDisk + Copy + Drop> SpoolConnector<'n, 's, N, D
     /// Leaves the files of a destination in their slot, with the socket that the earlier one goes out on if another run
     /// follows.
     fn leave(&mut self, place: usize) {
-        let Some((files, sink)) = self.spool.take(place) else {
+        let Some((mut files, sink)) = self.spool.take(place) else {
             return;
         };
-        let socket = match sink {
-            Some(sink) => { socket_of(&mut self.connector, self.signals, DestId(place), sink) }
-            None => None,
+        let Some(sink) = sink else {
+            self.slots.leave_files(place, Some(files), None);
+            return;
         };
+        let socket = socket_of(&mut self.connector, self.signals, DestId(place), sink);
+        let notes = self.spool.notes.get(place);
+        match &socket {
+            Some(_) => {}
+            None if self.signals.is_handing() => files.send_again(notes),
+            None => files.reconnect(notes),
+        }
         self.slots.leave_files(place, Some(files), socket);
     }
 
@@ -180,14 +199,17 @@ impl<'n, 's, N: Connect, D: SpoolDisk + Copy + Drop> SpoolConnector<'n, 's, N, D
         self.spool.note_ready(&self.ready[..count]);
         for place in 0..self.spool.dests.len() {
             if self.connector.has_closed(DestId(place)) {
-                self.spool.lose(place);
+                self.spool.note_closed(&self.disk, place);
             }
         }
         Ok(&self.ready[..count])
     }
 
-    /// The connection of a destination, once the file of an earlier run is sent by it.
+    /// The connection of a destination, once the file of an earlier run is sent.
     fn connect_behind_file(&mut self, dest: DestId, millis: u64) -> Option<N::Sink> {
+        if self.spool.awaits_end(&self.disk, dest.0, millis) {
+            return None;
+        }
         if !self.spool.is_behind(dest.0) {
             return self.connector.connect(dest, millis);
         }
@@ -199,7 +221,7 @@ impl<'n, 's, N: Connect, D: SpoolDisk + Copy + Drop> SpoolConnector<'n, 's, N, D
     }
 }
 
-impl<'n, W: Write + Drop> SenderSpool<'n, W> {
+impl<'n, W: Write + HalfClose + Drop> SenderSpool<'n, W> {
     /// Whether there is no spool.
     fn is_none(&self) -> bool {
         self.dests.is_empty()
@@ -225,10 +247,25 @@ impl<'n, W: Write + Drop> SenderSpool<'n, W> {
     }
 
     /// The connection of a destination has closed.
-    fn lose(&mut self, place: usize) {
+    fn note_closed<D: SpoolDisk>(&mut self, disk: &D, place: usize) {
         if let Some(state) = self.dests.get_mut(place) {
-            state.lose();
+            state.note_closed(disk, self.notes.get(place));
         }
+    }
+
+    /// Whether a connection that took a part of the earlier file of a destination is not ended by its store yet, at these
+    /// milliseconds.
+    fn awaits_end<D: SpoolDisk>(&mut self, disk: &D, place: usize, millis: u64) -> bool {
+        let Some(state) = self.dests.get_mut(place) else {
+            return false;
+        };
+        let notes = self.notes.get(place);
+        let was_behind = state.is_behind();
+        let awaits = state.awaits_end(disk, millis, notes);
+        if let (Some(notes), true, false) = (notes, was_behind, state.is_behind()) {
+            notes.note_sent(true);
+        }
+        awaits
     }
 
     /// Whether an earlier file of a destination is not sent yet.
@@ -262,7 +299,7 @@ impl<'n, W: Write + Drop> SenderSpool<'n, W> {
         }
     }
 
-    /// Sends some of the earlier file of a destination to its connection, which is returned once all is sent.
+    /// Sends some of the earlier file of a destination to its connection, which is returned once others may have it.
     fn send<D: SpoolDisk>(&mut self, disk: &D, place: usize) -> Option<W> {
         let state = self.dests.get_mut(place)?;
         let notes = self.notes.get(place);
@@ -277,14 +314,18 @@ impl<'n, W: Write + Drop> SenderSpool<'n, W> {
     }
 
     /// The files of a destination, once: they are its last connection. The connection that its file went to is given up.
-    fn take_files(&mut self, place: usize) -> Option<DestSpool> {
-        let state = self.dests.get_mut(place)?;
-        state.lose();
-        state.spool.take()
+    fn take_files<D: SpoolDisk>(&mut self, disk: &D, place: usize) -> Option<DestSpool> {
+        let _awaits = self.awaits_end(disk, place, 0);
+        let (mut files, sink) = self.take(place)?;
+        if let Some(sink) = sink {
+            drop(sink);
+            files.reconnect(self.notes.get(place));
+        }
+        Some(files)
     }
 }
 
-impl<W: Write + Drop> SpooledDest<W> {
+impl<W: Write + HalfClose + Drop> SpooledDest<W> {
     /// Whether the earlier file is not sent yet.
     fn is_behind(&self) -> bool {
         match &self.spool {
@@ -293,11 +334,54 @@ impl<W: Write + Drop> SpooledDest<W> {
         }
     }
 
-    /// The connection is gone, if there is one.
-    fn lose(&mut self) {
-        if let Some(spool) = &mut self.spool {
-            spool.lose(&mut self.connection);
+    /// The connection of the earlier file has closed, if there is one. One that has closed itself behind a line took a part.
+    fn note_closed<D: SpoolDisk>(&mut self, disk: &D, notes: Option<&SpoolNotes>) {
+        let Some(spool) = &mut self.spool else {
+            return;
+        };
+        let Some(sink) = self.connection.take() else {
+            return;
+        };
+        match sink.store_end() {
+            StoreEnd::Lost => {
+                drop(sink);
+                spool.send_again(notes);
+            }
+            StoreEnd::NotYet | StoreEnd::Orderly if spool.awaits_ends() => {
+                self.end = Some(FileEnd::begin(sink));
+            }
+            StoreEnd::NotYet | StoreEnd::Orderly => {
+                drop(sink);
+                spool.end_part(disk);
+            }
         }
+    }
+
+    /// Whether a connection that took a part of the earlier file is not ended by its store yet, at these milliseconds. Once it
+    /// is, the file goes on, or goes.
+    fn awaits_end<D: SpoolDisk>(
+        &mut self,
+        disk: &D,
+        millis: u64,
+        notes: Option<&SpoolNotes>,
+    ) -> bool {
+        let Some(mut end) = self.end.take() else {
+            return false;
+        };
+        let part_end = end.look(millis);
+        if let PartEnd::Open = part_end {
+            self.end = Some(end);
+            return true;
+        }
+        drop(end);
+        if let Some(spool) = &mut self.spool {
+            match part_end {
+                PartEnd::Taken => spool.end_part(disk),
+                PartEnd::NoEnd => spool.note_no_end(disk, notes),
+                PartEnd::Lost | PartEnd::Open => spool.send_again(notes),
+            }
+        }
+        false
     }
 
     /// Sends some of the earlier file to the connection, which is returned once no more is sent, with whether all was.
@@ -311,15 +395,28 @@ impl<W: Write + Drop> SpooledDest<W> {
             return None;
         };
         match spool.send(disk, &mut self.connection, piece, notes) {
-            Turn::Over(sink) => Some((sink, true)),
+            Turn::Over(sink) if spool.awaits_ends() => {
+                self.end = Some(FileEnd::begin(sink));
+                None
+            }
+            Turn::Over(sink) => {
+                spool.end_part(disk);
+                if !spool.is_behind() {
+                    return Some((sink, true));
+                }
+                self.connection.keep(sink);
+                None
+            }
             Turn::GivenUp { sink, .. } => Some((sink, false)),
             Turn::Broken { .. } | Turn::Lost | Turn::Kept => None,
         }
     }
 }
 
-impl<'n, 's, N: Connect + Drop, D: SpoolDisk + Copy + Drop> Connect
-    for SpoolConnector<'n, 's, N, D> {
+impl<'n, 's, N: Connect + Drop, D: SpoolDisk + Copy + Drop> Connect for SpoolConnector<'n, 's, N, D>
+where
+    N::Sink: HalfClose,
+{
     type Sink = SpoolSink<'n, N::Sink, D>;
 
     fn wait(&mut self, millis: u64) -> Result<&[DestId], ReadinessFault> {
@@ -335,7 +432,7 @@ impl<'n, 's, N: Connect + Drop, D: SpoolDisk + Copy + Drop> Connect
 
     fn connect(&mut self, dest: DestId, millis: u64) -> Option<SpoolSink<'n, N::Sink, D>> {
         if self.is_spooling(dest) {
-            let files = self.spool.take_files(dest.0)?;
+            let files = self.spool.take_files(&self.disk, dest.0)?;
             let notes = self.spool.notes.get(dest.0);
             let file = FileSink::new(self.disk, files, self.spool.limit, notes);
             return Some(SpoolSink::File(file));
@@ -373,7 +470,10 @@ impl<'n, 's, N: Connect + Drop, D: SpoolDisk + Copy + Drop> Connect
     }
 }
 
-impl<'n, 's, N: Connect, D: SpoolDisk + Copy + Drop> RestFiles for SpoolConnector<'n, 's, N, D> {
+impl<'n, 's, N: Connect, D: SpoolDisk + Copy + Drop> RestFiles for SpoolConnector<'n, 's, N, D>
+where
+    N::Sink: HalfClose,
+{
     fn may_spool(&self, dest: DestId) -> bool {
         self.may_spool && self.spool.has_file(dest.0)
     }

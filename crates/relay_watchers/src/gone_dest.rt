@@ -2,6 +2,7 @@
 
 use conf_text::Dest;
 use run_state::GoneNotes;
+use spool::SpoolNotes;
 
 /// A destination that the run before had and this one has not, and what becomes of what was held for it.
 #[derive(Drop)]
@@ -10,4 +11,13 @@ pub struct GoneDest {
     pub dest: Dest,
     /// What becomes of what was held for it.
     pub notes: GoneNotes,
+}
+
+/// The destinations that are gone, and what happened to their files.
+#[derive(Clone, Copy)]
+pub struct GoneSources<'x> {
+    /// The destinations.
+    pub dests: &'x [GoneDest],
+    /// What happened to their files.
+    pub files: &'x [SpoolNotes],
 }

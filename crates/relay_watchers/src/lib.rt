@@ -20,7 +20,7 @@ mod status_history;
 mod status_job;
 mod watchers;
 
-pub use gone_dest::GoneDest;
+pub use gone_dest::{GoneDest, GoneSources};
 pub use late_news::LateNews;
 pub use log_buffer::LogBuffer;
 pub use log_job::{LogEnd, LogJob};

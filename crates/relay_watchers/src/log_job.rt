@@ -3,7 +3,7 @@
 ghost use Rattle.std.specs.Prelude.{◌≡◌, ◌<◌, length};
 
 use crate::dest_rest::{DestRest, RestOfAll};
-use crate::gone_dest::GoneDest;
+use crate::gone_dest::GoneSources;
 use crate::late_news::LateNews;
 use crate::log_writes::{write_dest_end, write_gone_end, write_line, write_text};
 use crate::receiver_log::ReceiverLog;
@@ -16,6 +16,7 @@ use log_lines::{
 use mio_loops::{SystemTimes, TimeSource};
 use relay_base::{DestId, NoMemory, add};
 use run_state::{DestSources, EndState, Signals, ThreadWork, Unsent, bit};
+use spool::{MOST_NEWS, SpoolNotes};
 use std::alloc::{AllocError, Global};
 use std::io::Write;
 use std::mem;
@@ -36,8 +37,6 @@ struct ReportedDest {
     lookup: LoggedLookup,
     // Whether an earlier file was reported as sent.
     is_sent: bool,
-    // Whether what is to be said of that file was.
-    has_news: bool,
 }
 
 /// What a log that has ended leaves to that of the next run: its output, and what it has reported of the receivers.
@@ -55,7 +54,7 @@ pub struct LogEnd<L> {
 pub struct LogJob<'x, B: Set, L> {
     queues: &'x Queues<B>,
     noted: DestSources<'x>,
-    gone: &'x [GoneDest],
+    gone: GoneSources<'x>,
     late_news: &'x LateNews,
     size: usize,
     reported: Vec<ReportedDest>,
@@ -97,7 +96,6 @@ fn reported_of(alloc: Global, noted: DestSources<'_>) -> Result<Vec<ReportedDest
             dest: logged_at(noted, place),
             lookup: LoggedLookup::new(),
             is_sent: false,
-            has_news: false,
         };
         add(&mut reported, dest)?;
     }
@@ -135,7 +133,7 @@ impl<'x, B: Set, L: Write + Drop> LogJob<'x, B, L> {
             write_line(&mut self.output, Ok(text));
         }
         let mut bit: u64 = 1;
-        for gone in self.gone {
+        for gone in self.gone.dests {
             if let (Some(end), 0) = (gone.notes.end(), self.gone_reported & bit) {
                 self.gone_reported |= bit;
                 write_gone_end(&mut self.output, alloc, &gone.dest, end);
@@ -202,20 +200,12 @@ impl<'x, B: Set, L: Write + Drop> LogJob<'x, B, L> {
         Ok(line)
     }
 
-    /// Writes what is to be said of the files of an earlier run, of each once.
+    /// Writes what is to be said of the files of an earlier run, each line once.
     fn write_file_news(&mut self) {
-        let Some(end) = self.noted.end else {
-            return;
-        };
-        let spool_notes = end.spool_notes();
-        for (place, reported) in self.reported.as_mut_slice().iter_mut().enumerate() {
-            if let (Some(notes), false) = (spool_notes.get(place), reported.has_news) {
-                if let Some(news) = notes.news() {
-                    reported.has_news = true;
-                    write_text(&mut self.output, news);
-                }
-            }
+        if let Some(end) = self.noted.end {
+            write_news(&mut self.output, end.spool_notes());
         }
+        write_news(&mut self.output, self.gone.files);
     }
 
     /// Writes which destinations have been sent the files of an earlier run, each once.
@@ -314,6 +304,17 @@ impl<'x, B: Set, L: Write + Drop, R: Wait + Clock> ThreadWork<R, LogEnd<L>> for 
     }
 }
 
+/// Writes what is to be said of files, each line once.
+fn write_news<L: Write>(output: &mut L, files: &[SpoolNotes]) {
+    for notes in files {
+        for _ in 0..MOST_NEWS {
+            if let Some(news) = notes.next_news() {
+                write_text(output, news);
+            }
+        }
+    }
+}
+
 /// Waits until receivers and senders have ended.
 fn wait_for_end<R: Wait>(rt: &R, signals: &Signals) {
     for _ in rt.forever() {
@@ -350,7 +351,7 @@ pub(crate) fn log_to<'x, B: Set, L: Write + Drop>(
     alloc: Global,
     queues: &'x Queues<B>,
     noted: DestSources<'x>,
-    gone: &'x [GoneDest],
+    gone: GoneSources<'x>,
     late_news: &'x LateNews,
     size: usize,
     receivers: Vec<ReceiverLog>,

@@ -2,7 +2,7 @@
 
 ghost use Rattle.std.specs.Prelude.{◌≡◌, length};
 
-use crate::gone_dest::GoneDest;
+use crate::gone_dest::GoneSources;
 use crate::late_news::LateNews;
 use crate::log_job::{LogJob, log_to};
 use crate::receiver_log::{ReceiverLog, watched_of};
@@ -25,7 +25,7 @@ pub struct Watched<'x, B: Set> {
     /// The destinations, with their events.
     pub noted: DestSources<'x>,
     /// The destinations that are gone.
-    pub gone: &'x [GoneDest],
+    pub gone: GoneSources<'x>,
     /// What the first thread has for the log.
     pub late_news: &'x LateNews,
     /// The size of each queue.

@@ -1,6 +1,6 @@
 //! A try to connect.
 
-use crate::store_stream::loss_of;
+use crate::wire::loss_of;
 use log_lines::Why;
 use mio::net::TcpStream;
 use mio_loops::{Readiness, Token};

@@ -1,6 +1,8 @@
 //! A destination's connection, as its link sees it.
 
+use crate::store_end::StoreEnd;
 use crate::wire::Wire;
+use log_lines::Why;
 use mio::net::TcpStream;
 use relay_base::NoMemory;
 use std::alloc::Global;
@@ -39,12 +41,15 @@ impl Connection {
         })
     }
 
-    /// From now on this is the connection, in place of the last. Returns what its stream writes to; `None` if the
-    /// stream of the last one is still there. It takes no memory.
-    pub(crate) fn open(&mut self, socket: TcpStream) -> Option<Arc<Wire>> {
+    /// From now on this is the connection, in place of the last, which may be half-closed. Returns what its stream writes to;
+    /// `None` if the stream of the last one is still there. It takes no memory.
+    pub(crate) fn open(&mut self, socket: TcpStream, is_half_closed: bool) -> Option<Arc<Wire>> {
         if self.set_socket(Some(socket)) {
             // What the store has sent by now may have been reported together with the connection, and is not reported again.
             self.is_ready = true;
+            if is_half_closed {
+                self.wire.note_half_closed();
+            }
             Arc::try_clone(&self.wire).ok()
         } else {
             None
@@ -73,12 +78,29 @@ impl Connection {
         }
     }
 
-    /// The socket, if there is a connection that may take more, and its stream is gone. It is no longer here then.
+    /// The socket, if there is a connection that may take more, or is half-closed and not lost, and its stream is gone. It is
+    /// no longer here then.
     pub(crate) fn take_socket(&mut self) -> Option<TcpStream> {
-        if self.has_ended {
+        let is_lost = if self.wire.is_half_closed() {
+            matches!(self.wire.store_end(), StoreEnd::Lost)
+        } else {
+            self.has_ended
+        };
+        if is_lost {
             return None;
         }
         Arc::get_mut(&mut self.wire)?.take_socket()
+    }
+
+    /// Whether the connection is half-closed.
+    pub(crate) fn is_half_closed(&self) -> bool {
+        self.wire.is_half_closed()
+    }
+
+    /// Whether the connection is half-closed behind whole lines, and not lost: it takes no more because its sender wants that.
+    pub(crate) fn is_done(&self) -> bool {
+        let is_lost = matches!(self.wire.store_end(), StoreEnd::Lost);
+        !is_lost && !self.wire.is_over()
     }
 
     /// Nothing more is written: the store sees the end once it has read what was written.
@@ -94,14 +116,23 @@ impl Connection {
         self.is_ready = true;
     }
 
-    /// A wait reported that the store has closed its end, or that the connection failed.
+    /// A wait reported that the store has closed its end, or that the connection failed. Of one that is half-closed reading
+    /// says which.
     pub(crate) fn note_end(&mut self) {
-        self.has_ended = true;
+        if self.wire.is_half_closed() {
+            self.is_ready = true;
+        } else {
+            self.has_ended = true;
+        }
     }
 
     /// Whether the store has closed its end, or the connection failed.
     pub(crate) fn has_ended(&self) -> bool {
-        self.has_ended
+        if self.wire.is_half_closed() {
+            !matches!(self.wire.store_end(), StoreEnd::NotYet)
+        } else {
+            self.has_ended
+        }
     }
 
     /// Whether the connection has had its last line.
@@ -111,12 +142,12 @@ impl Connection {
 
     /// Whether the store has sent something, and has not closed its end: it may still send.
     pub(crate) fn may_send(&self) -> bool {
-        self.has_sent && !self.has_ended
+        self.has_sent && !self.has_ended()
     }
 
     /// Reads what the store has sent, and drops it, if there may be something.
     pub(crate) fn read_away(&mut self) {
-        if !self.is_ready || self.has_ended {
+        if !self.is_ready || self.has_ended() {
             return;
         }
         let Some(socket) = self.wire.socket() else {
@@ -128,7 +159,16 @@ impl Connection {
                 self.has_sent = self.has_sent || some;
             }
             ReadExtent::Some => self.has_sent = true,
-            ReadExtent::End => self.has_ended = true,
+            ReadExtent::End => {
+                self.has_ended = true;
+                if self.wire.is_half_closed() {
+                    self.wire.note_read();
+                }
+            }
+            ReadExtent::Failed(why) => {
+                self.has_ended = true;
+                self.wire.note_lost(why);
+            }
         }
     }
 }
@@ -139,8 +179,10 @@ enum ReadExtent {
     All { some: bool },
     /// As much as is read at once. More may be there.
     Some,
-    /// To the end, or it failed.
+    /// To the end.
     End,
+    /// Not to the end: it failed for this.
+    Failed(Why),
 }
 
 /// Reads what has come, and drops it.
@@ -155,7 +197,7 @@ fn bytes_dropped(socket: &TcpStream) -> ReadExtent {
             Err(error) => match error.kind() {
                 ErrorKind::WouldBlock => return ReadExtent::All { some },
                 ErrorKind::Interrupted => {}
-                _ => return ReadExtent::End,
+                _ => return ReadExtent::Failed(Why::of_error(&error)),
             },
         }
     }

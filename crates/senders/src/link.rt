@@ -147,7 +147,7 @@ impl Link {
                     Progress::Connected(socket) => {
                         self.enter(Stage::Connected);
                         self.addresses.note_connected();
-                        return self.connection.open(socket);
+                        return self.connection.open(socket, false);
                     }
                     Progress::UnderWay(attempt) => Stage::Connecting(attempt),
                     Progress::Failed(why) => self.fail(notes, why, Some(address)),
@@ -167,16 +167,27 @@ impl Link {
         }
     }
 
-    /// From now on this is the connection, which another sender made. Returns what its stream writes to.
-    pub(crate) fn keep(&mut self, socket: TcpStream) -> Option<Arc<Wire>> {
+    /// Whether the connection is half-closed.
+    pub(crate) fn is_half_closed(&self) -> bool {
+        self.connection.is_half_closed()
+    }
+
+    /// From now on this is the connection, which another sender made, and maybe half-closed. Returns what its stream writes to.
+    pub(crate) fn keep(&mut self, socket: TcpStream, is_half_closed: bool) -> Option<Arc<Wire>> {
         self.enter(Stage::Connected);
         self.addresses.note_connected();
-        self.connection.open(socket)
+        self.connection.open(socket, is_half_closed)
     }
 
     /// Closes the last connection, which is lost, if it is not closed yet. One that has had its last line is closed
-    /// only once the store has closed its end, or has had its time for that.
+    /// only once the store has closed its end, or has had its time for that. Behind one that is done the next try begins at
+    /// once.
     fn end_last(&mut self, millis: u64) {
+        if let Stage::Connected = self.stage {
+            if self.connection.is_done() {
+                self.next_try_millis = millis;
+            }
+        }
         let end_millis = match self.stage {
             Stage::Connected if self.connection.is_over() => millis.saturating_add(LONGEST_END_MS),
             Stage::Connected => millis,
@@ -257,6 +268,8 @@ impl Link {
     /// A try has failed, at this address if one was tried, which is noted, if events are. None is under way then.
     fn fail(&self, notes: Option<&DestNotes>, why: Why, address: Option<SocketAddr>) -> Stage {
         if let Some(notes) = notes {
+            // A connection that is done is lost if no other follows it.
+            notes.note_lost(why);
             notes.note_failure(why, address);
             if self.addresses.are_all_tried() {
                 notes.note_all_tried();

@@ -103,8 +103,13 @@ impl<'g, R: Net + Drop, L: Lookup + Drop> StoreConnector<'g, R, L> {
         let Some(Some(link)) = self.links.get_mut(dest.0) else {
             return None;
         };
+        let is_half_closed = link.is_half_closed();
         let socket = link.take_socket()?;
-        Some(KeptSocket { socket, begun })
+        Some(KeptSocket {
+            socket,
+            begun,
+            is_half_closed,
+        })
     }
 
     /// Takes over the connection of a destination from another sender: it goes on here. `None` if the system does not watch it,
@@ -114,9 +119,13 @@ impl<'g, R: Net + Drop, L: Lookup + Drop> StoreConnector<'g, R, L> {
         if let Some(notes) = self.notes.get(dest.0) {
             notes.note_kept(millis);
         }
-        let wire = self.watch(dest, kept.socket);
-        match wire {
-            Some(wire) => Some(StoreStream::resumed(wire, kept.begun, self.notes.get(dest.0))),
+        let KeptSocket {
+            socket,
+            begun,
+            is_half_closed,
+        } = kept;
+        match self.watch(dest, socket, is_half_closed) {
+            Some(wire) => Some(StoreStream::resumed(wire, begun, self.notes.get(dest.0))),
             None => {
                 self.note_lost(dest, Why::NoReadiness);
                 None
@@ -124,8 +133,14 @@ impl<'g, R: Net + Drop, L: Lookup + Drop> StoreConnector<'g, R, L> {
         }
     }
 
-    /// From now on this socket, which is watched, is the connection of a destination. Returns what its stream writes to.
-    fn watch(&mut self, dest: DestId, socket: TcpStream) -> Option<Arc<Wire>> {
+    /// From now on this socket, which is watched, and may be half-closed, is the connection of a destination. Returns what its
+    /// stream writes to.
+    fn watch(
+        &mut self,
+        dest: DestId,
+        socket: TcpStream,
+        is_half_closed: bool,
+    ) -> Option<Arc<Wire>> {
         let Some(Some(link)) = self.links.get_mut(dest.0) else {
             drop(socket);
             return None;
@@ -139,7 +154,7 @@ impl<'g, R: Net + Drop, L: Lookup + Drop> StoreConnector<'g, R, L> {
             drop(socket);
             return None;
         }
-        link.keep(socket)
+        link.keep(socket, is_half_closed)
     }
 
     /// The connection of a destination is lost, which is noted.

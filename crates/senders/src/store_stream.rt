@@ -2,15 +2,15 @@
 ghost use Rattle.std.specs.Io.{WritesAtMost};
 
 use crate::connection_lines::ConnectionLines;
-use crate::wire::Wire;
+use crate::store_end::{HalfClose, StoreEnd};
+use crate::wire::{Wire, loss_of};
 use log_lines::{DestNotes, Why};
-use mio::net::TcpStream;
 use std::io;
 use std::io::{ErrorKind, Write};
-use std::net::Shutdown;
 use std::sync::Arc;
 
-/// A connection to a store. If it is dropped, and events are noted, its loss is noted with the reason.
+/// A connection to a store. If it is dropped, and events are noted, its loss is noted with the reason. One that was
+/// half-closed, and is not lost, is no loss: another one follows it.
 ///
 /// A line that is longer than stores read is its last: it half-closes the connection behind that line, and each later
 /// write fails.
@@ -23,14 +23,14 @@ pub struct StoreStream<'e> {
 }
 
 impl<'e> StoreStream<'e> {
-    /// A connection that was made at these milliseconds, which is noted.
+    /// A connection that was made at these milliseconds, which is noted, unless it follows one that is no loss.
     pub(crate) fn new(
         wire: Arc<Wire>,
         millis: u64,
         notes: Option<&'e DestNotes>,
     ) -> StoreStream<'e> {
         if let Some(notes) = notes {
-            notes.note_connected(millis);
+            notes.note_kept(millis);
         }
         StoreStream {
             wire,
@@ -75,10 +75,7 @@ impl<'e> StoreStream<'e> {
         }
         if self.lines.take(bytes) {
             self.wire.note_over();
-            if let Some(socket) = self.wire.socket() {
-                // What cannot be half-closed has failed.
-                let _ = socket.shutdown(Shutdown::Write);
-            }
+            self.wire.half_close();
         }
     }
 }
@@ -99,6 +96,16 @@ impl Write for StoreStream<'_> {
 
     fn flush(&mut self) -> io::Result<()> {
         Ok(())
+    }
+}
+
+impl HalfClose for StoreStream<'_> {
+    fn half_close(&mut self) {
+        self.wire.half_close();
+    }
+
+    fn store_end(&self) -> StoreEnd {
+        self.wire.store_end()
     }
 }
 
@@ -123,22 +130,24 @@ impl Drop for StoreStream<'_> {
             notes,
             why,
         } = self;
-        if let Some(notes) = notes {
-            notes.note_lost(loss_of_wire(&wire, why));
+        if let (Some(notes), Some(why)) = (notes, loss_of_wire(&wire, why)) {
+            notes.note_lost(why);
         }
         drop(wire);
     }
 }
 
-/// Why a connection is lost, if its last write failed for this.
-fn loss_of_wire(wire: &Wire, failure: Option<Why>) -> Why {
+/// Why a connection is lost, if its last write failed for this; `None` if it is no loss.
+fn loss_of_wire(wire: &Wire, failure: Option<Why>) -> Option<Why> {
     if wire.is_over() {
-        return Why::LongLine;
+        return Some(Why::LongLine);
     }
-    match (failure, wire.socket()) {
-        (Some(why), _) => why,
-        (None, Some(socket)) => loss_of(socket),
-        (None, None) => Why::Closed,
+    match (failure, wire.loss(), wire.socket()) {
+        (Some(why), _, _) => Some(why),
+        (None, Some(why), _) => Some(why),
+        (None, None, _) if wire.is_half_closed() => None,
+        (None, None, Some(socket)) => Some(loss_of(socket)),
+        (None, None, None) => Some(Why::Closed),
     }
 }
 
@@ -147,14 +156,5 @@ fn failure_of(error: &io::Error) -> Option<Why> {
     match error.kind() {
         ErrorKind::WouldBlock | ErrorKind::Interrupted => None,
         _ => Some(Why::of_error(error)),
-    }
-}
-
-/// Why a stream is lost: the system's error, or otherwise its peer closed it.
-pub(crate) fn loss_of(stream: &TcpStream) -> Why {
-    match stream.take_error() {
-        Ok(None) => Why::Closed,
-        Ok(Some(error)) => Why::of_error(&error),
-        Err(error) => Why::of_error(&error),
     }
 }

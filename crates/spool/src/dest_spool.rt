@@ -251,23 +251,85 @@ impl DestSpool {
         }
     }
 
-    /// The connection that the file goes out on is gone, if there is one: what it did not take whole goes to the next one.
-    pub fn lose<W: Write + Drop>(&mut self, connection: &mut FileConnection<W>) {
+    /// The connection that the file goes out on is lost, if there is one: all that it took goes out again.
+    fn lose<W: Write + Drop>(
+        &mut self,
+        connection: &mut FileConnection<W>,
+        notes: Option<&SpoolNotes>,
+    ) {
+        if connection.is_open() {
+            self.close(connection);
+            self.send_again(notes);
+        }
+    }
+
+    /// The relay closes the connection that the file goes out on, if there is one: what it did not take whole goes to the next
+    /// one.
+    fn close<W: Write + Drop>(&mut self, connection: &mut FileConnection<W>) {
         if let Some(held) = &mut self.held {
             connection.lose(held.cursor_mut());
         }
     }
 
-    /// The connection that the file went out on is gone, with whoever had it: what it did not take whole goes to the next one.
-    /// A file that could not be read is tried again.
-    pub fn reconnect(&mut self) {
-        if let Some(held) = &mut self.held {
-            held.reconnect();
+    /// The relay has closed the connection that the file went out on: what it did not take whole goes to the next one, or all of
+    /// a part that was sent, since the store has not ended the connection. A file that could not be read is tried again.
+    pub fn reconnect(&mut self, notes: Option<&SpoolNotes>) {
+        let Some(held) = &mut self.held else {
+            return;
+        };
+        let is_part_sent = held.is_part_sent();
+        held.reconnect();
+        if is_part_sent {
+            self.send_again(notes);
         }
     }
 
-    /// Sends some of the earlier file to its connection. Once that took the last whole line, the file goes. One that cannot be
-    /// read stays, and the notes say so.
+    /// The store may not have what the last connection took of the earlier file, which goes out again. The notes say which lines
+    /// may come twice.
+    pub fn send_again(&mut self, notes: Option<&SpoolNotes>) {
+        let Some(held) = &mut self.held else {
+            return;
+        };
+        let (start, end) = (held.part_start(), held.start());
+        held.send_again();
+        if end > start {
+            note_news(notes, self.names.again_news(start, end));
+        }
+    }
+
+    /// Whether a connection that took a part of the earlier file is to be ended by its store before that counts as sent.
+    pub fn awaits_ends(&self) -> bool {
+        match &self.held {
+            Some(held) => !held.has_no_end(),
+            None => false,
+        }
+    }
+
+    /// The store has what its connection took of the earlier file. The file goes if that is all.
+    pub fn end_part<D: SpoolDisk>(&mut self, disk: &D) {
+        let Some(held) = &mut self.held else {
+            return;
+        };
+        held.end_part();
+        if held.is_sent() {
+            self.end_held(disk);
+            self.go_on_with_new(disk);
+        }
+    }
+
+    /// The store does not end its connection: what that took of the earlier file counts as sent, and so does the rest as soon as
+    /// the system has it. The notes say so.
+    pub fn note_no_end<D: SpoolDisk>(&mut self, disk: &D, notes: Option<&SpoolNotes>) {
+        let Some(held) = &mut self.held else {
+            return;
+        };
+        held.note_no_end();
+        note_news(notes, self.names.no_end_news());
+        self.end_part(disk);
+    }
+
+    /// Sends some of the earlier file to its connection, which is given out once it took a part ([`DestSpool::end_part`]). A file
+    /// that cannot be read stays, and the notes say so.
     pub fn send<D: SpoolDisk, W: Write + Drop>(
         &mut self,
         disk: &D,
@@ -286,32 +348,12 @@ impl DestSpool {
             None => Turn::Kept,
         };
         self.note_unread(&turn, notes);
-        self.end_turn(disk, connection, turn)
-    }
-
-    /// Ends a turn: a file goes of which all is sent, and a connection that is lost.
-    fn end_turn<D: SpoolDisk, W: Write + Drop>(
-        &mut self,
-        disk: &D,
-        connection: &mut FileConnection<W>,
-        turn: Turn<W>,
-    ) -> Turn<W> {
-        match turn {
-            Turn::Over(sink) => {
-                self.end_held(disk);
-                self.end_or_go_on(disk, connection, sink)
-            }
-            Turn::GivenUp { sink, code } => Turn::GivenUp { sink, code },
-            Turn::Broken { code } => {
-                self.lose(connection);
-                Turn::Broken { code }
-            }
-            Turn::Lost => {
-                self.lose(connection);
-                Turn::Lost
-            }
-            Turn::Kept => Turn::Kept,
+        match &turn {
+            Turn::Broken { .. } => self.close(connection),
+            Turn::Lost => self.lose(connection, notes),
+            Turn::Over(_) | Turn::GivenUp { .. } | Turn::Kept => {}
         }
+        turn
     }
 
     /// Whether somebody removed the earlier file, or put another one there.
@@ -357,12 +399,16 @@ impl DestSpool {
         }
     }
 
-    /// The earlier file goes, since all its lines are sent: it is removed, or put aside if it has something behind these.
+    /// The earlier file goes, since all its lines are sent: it is removed, or put aside if it has something behind these, unless
+    /// somebody took it away.
     fn end_held<D: SpoolDisk>(&mut self, disk: &D) {
+        let is_taken_away = self.is_taken_away(disk);
         let Some(held) = self.held.take() else {
             return;
         };
-        if held.has_begun_line() {
+        if is_taken_away {
+            held.free();
+        } else if held.has_begun_line() {
             if let Ok(aside) = self.move_aside(disk, self.names.held()) {
                 drop(aside);
                 held.free();
@@ -373,21 +419,11 @@ impl DestSpool {
         drop(held);
     }
 
-    /// Goes on with what an earlier version was writing, if that is there, and otherwise gives the connection out.
-    fn end_or_go_on<D: SpoolDisk, W: Write + Drop>(
-        &mut self,
-        disk: &D,
-        connection: &mut FileConnection<W>,
-        sink: W,
-    ) -> Turn<W> {
+    /// Goes on with what an earlier version was writing, if that is there.
+    fn go_on_with_new<D: SpoolDisk>(&mut self, disk: &D) {
         if self.give_new_its_name(disk) {
             self.held = self.found_again(disk);
         }
-        if self.held.is_none() {
-            return Turn::Over(sink);
-        }
-        connection.keep(sink);
-        Turn::Kept
     }
 
     /// The file, if it is there with whole lines.

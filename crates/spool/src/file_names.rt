@@ -113,6 +113,22 @@ impl FileNames {
         Ok(news?)
     }
 
+    /// The news of a part of a file whose connection was lost, or was not ended by its store.
+    pub(crate) fn again_news(&self, start: u64, end: u64) -> Result<String, NoMemory> {
+        let (alloc, held) = (self.alloc, self.held());
+        Ok(format!(in alloc;
+            "spool: {held}: the store did not end the connection in order: bytes {start} to {end} go out again, and lines may come twice\n"
+        )?)
+    }
+
+    /// The news of a file whose store does not end connections.
+    pub(crate) fn no_end_news(&self) -> Result<String, NoMemory> {
+        let (alloc, held) = (self.alloc, self.held());
+        Ok(format!(in alloc;
+            "spool: {held}: the store did not end the connection within 5 seconds: what the system took counts as sent\n"
+        )?)
+    }
+
     /// The news of a file that is not there any more, whose sending was at this place.
     pub(crate) fn taken_away_news(&self, place: u64) -> Result<String, NoMemory> {
         let (alloc, held) = (self.alloc, self.held());

@@ -1,17 +1,21 @@
 //! A file that holds lines which are to be sent.
 
 use crate::file_connection::FileConnection;
+use crate::part::Part;
 use crate::sent_table::SentPlace;
 use crate::turn::Turn;
 use backlog::Cursor;
 use std::fs::File;
 use std::io::Write;
 
-/// How far a file is sent, and where that is noted, if it is.
+/// How far a file is sent, where that is noted, if it is, and which part of it goes out now.
 #[derive(Drop)]
 pub(crate) struct SentPart {
     cursor: Cursor,
     place: Option<SentPlace>,
+    part: Part,
+    // Whether the store does not end connections, so that what the system took counts as sent.
+    has_no_end: bool,
 }
 
 impl SentPart {
@@ -20,6 +24,8 @@ impl SentPart {
         SentPart {
             cursor: Cursor::new(),
             place: None,
+            part: Part::at(0),
+            has_no_end: false,
         }
     }
 }
@@ -51,6 +57,7 @@ impl HeldFile {
     /// It was sent up to a place, from where its sending goes on.
     pub(crate) fn go_on_at(&mut self, place: u64) {
         self.sent.cursor = Cursor::at(place);
+        self.sent.part = Part::at(place);
     }
 
     /// From now on it is noted there how far it is sent.
@@ -106,16 +113,57 @@ impl HeldFile {
         self.has_failed = false;
     }
 
-    /// Sends a piece to a connection, and notes how far it is sent then.
+    /// Where its part begins.
+    pub(crate) fn part_start(&self) -> u64 {
+        self.sent.part.start()
+    }
+
+    /// Where the first line begins that no connection took whole.
+    pub(crate) fn start(&self) -> u64 {
+        self.sent.cursor.start()
+    }
+
+    /// Whether all of its part is sent, and the store has not ended the connection.
+    pub(crate) fn is_part_sent(&self) -> bool {
+        self.sent.part.is_sent(self.start())
+    }
+
+    /// The store has what its connection took: the next part begins there.
+    pub(crate) fn end_part(&mut self) {
+        self.sent.cursor.reconnect();
+        self.sent.part = Part::at(self.start());
+    }
+
+    /// Its part goes out again, which is noted.
+    pub(crate) fn send_again(&mut self) {
+        let start = self.part_start();
+        self.sent.cursor = Cursor::at(start);
+        if let Some(place) = &mut self.sent.place {
+            place.note(&self.file, start);
+        }
+    }
+
+    /// Whether the store does not end connections.
+    pub(crate) fn has_no_end(&self) -> bool {
+        self.sent.has_no_end
+    }
+
+    /// The store does not end connections.
+    pub(crate) fn note_no_end(&mut self) {
+        self.sent.has_no_end = true;
+    }
+
+    /// Sends a piece of its part to a connection, and notes how far it is sent then.
     pub(crate) fn send<W: Write + Drop>(
         &mut self,
         connection: &mut FileConnection<W>,
         piece: &mut [u8],
     ) -> Turn<W> {
+        let end = self.sent.part.end_in(&self.file, self.end, piece);
         if let Some(place) = &self.sent.place {
             place.begin_piece();
         }
-        let turn = connection.send(&self.file, self.end, &mut self.sent.cursor, piece);
+        let turn = connection.send(&self.file, end, &mut self.sent.cursor, piece);
         if let Some(place) = &mut self.sent.place {
             place.note(&self.file, self.sent.cursor.start());
         }

@@ -3,7 +3,10 @@
 use std::io;
 use std::io::ErrorKind;
 use std::sync::OnceLock;
-use std::sync::atomic::{AtomicBool, AtomicI32, AtomicU64, Ordering};
+use std::sync::atomic::{AtomicBool, AtomicI32, AtomicU64, AtomicUsize, Ordering};
+
+/// How many lines are said of a file in a run at most.
+pub const MOST_NEWS: usize = 8;
 
 /// What happened to the file of a destination. Its sender alone notes it; the first thread and that of the log read it at the
 /// same time.
@@ -21,8 +24,9 @@ pub struct SpoolNotes {
     has_no_room: AtomicBool,
     is_lost: AtomicBool,
     error: AtomicI32,
-    // What is to be said of the earlier file.
-    news: OnceLock<String>,
+    // What is to be said of the earlier file, and how much of that was taken.
+    news: [OnceLock<String>; MOST_NEWS],
+    news_taken: AtomicUsize,
 }
 
 /// Why a new file took no more.
@@ -47,7 +51,17 @@ impl SpoolNotes {
             has_no_room: AtomicBool::new(false),
             is_lost: AtomicBool::new(false),
             error: AtomicI32::new(0),
-            news: OnceLock::new(),
+            news: [
+                OnceLock::new(),
+                OnceLock::new(),
+                OnceLock::new(),
+                OnceLock::new(),
+                OnceLock::new(),
+                OnceLock::new(),
+                OnceLock::new(),
+                OnceLock::new(),
+            ],
+            news_taken: AtomicUsize::new(0),
         }
     }
 
@@ -140,16 +154,22 @@ impl SpoolNotes {
 
     /// These news are to be said of the earlier file. Only the first ones are.
     pub(crate) fn note_news(&self, news: String) {
-        if let Err(news) = self.news.try_set(news) {
-            drop(news);
+        let mut news = news;
+        for slot in &self.news {
+            match slot.try_set(news) {
+                Ok(_) => return,
+                Err(refused) => news = refused,
+            }
         }
+        drop(news);
     }
 
-    /// What is to be said of the earlier file, if there is something.
-    pub fn news(&self) -> Option<&str> {
-        match self.news.get() {
-            Some(news) => Some(news.as_str()),
-            None => None,
-        }
+    /// What is to be said of the earlier file next, once, if there is something. One thread alone asks.
+    pub fn next_news(&self) -> Option<&str> {
+        let taken = self.news_taken.load(Ordering::SeqCst);
+        let news = self.news.get(taken)?.get()?;
+        self.news_taken
+            .store(taken.saturating_add(1), Ordering::SeqCst);
+        Some(news.as_str())
     }
 }

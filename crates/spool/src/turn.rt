@@ -3,7 +3,7 @@
 /// What a turn of sending did.
 #[derive(Drop)]
 pub enum Turn<W> {
-    /// The connection took the file's last whole line: it may take other lines.
+    /// The connection took the last whole line of the file's part ([`crate::DestSpool::end_part`]): it may take other lines.
     Over(W),
     /// The file cannot be read, by this error of the system, 0 if it is shorter than it was. The connection took whole lines
     /// of it, and may take other lines.
