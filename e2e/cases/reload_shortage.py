@@ -296,7 +296,7 @@ class Short(Strained):
             self.is_done(relay, store, stream)
 
     def test_files_of_new_stores_and_a_store_that_is_gone(self):
-        """Their descriptors are tried too: however many are free the relay goes on, and all datapoints arrive or are in files."""
+        """Their descriptors are tried too: however many are free, the relay goes on and loses nothing."""
         ends = []
         for free in ROOMS[::4]:
             with self.subTest(free=free), contextlib.ExitStack() as at_end:
@@ -304,8 +304,8 @@ class Short(Strained):
         self.assertEqual((ends[0], ends[-1]), (NO_DESCRIPTORS, RELOADED))
 
     def changes(self, free, at_end):
-        """What becomes of a reload, while about so many descriptors are free, that takes a store out for which something is queued,
-        and adds some with files."""
+        """What becomes of a reload, while about so many descriptors are free, that takes out a store for which something is
+        queued, and adds some with files."""
         def few():
             resource.setrlimit(resource.RLIMIT_NOFILE, (2 * FEW, 2 * FEW))
 
