@@ -5,11 +5,8 @@ import ctypes
 import http.client
 import json
 import os
-import shutil
-import signal
 import subprocess
 import threading
-import unittest
 
 from fixtures.harness import LIMIT, Ran, run
 from fixtures.log import Log
