@@ -7,6 +7,7 @@ import json
 import os
 import subprocess
 import threading
+import time
 
 from fixtures.harness import LIMIT, Ran, run
 from fixtures.log import Log
@@ -17,6 +18,7 @@ from fixtures.stores import Store, free_ports
 COUNT = 3_000
 FOREVER = "3600"  # seconds: for so long no case waits
 REST = 0.05       # seconds between two reads of a slow store
+PATIENCE = 5      # seconds for which a store reads nothing
 LIBC = ctypes.CDLL(None, use_errno=True)
 
 
@@ -88,6 +90,20 @@ class Spool(WithSpool):
             self.wait_for(lambda: store.lines() == LONG, "the store has all, once")
             self.settles(relay)
         return took
+
+    def test_a_store_that_reads_on_after_the_end(self):
+        """It gets what the system had for it when the relay ended, though it read nothing for seconds."""
+        store, dest = self.store_that_reads_nothing()
+        with self.spooling([dest]) as relay:
+            self.queued(relay, LONG)
+            self.begins_to_send(store)
+            self.settles(relay)
+        kept = self.held(dest)
+        self.assertLess(len(kept), len(LONG))
+        time.sleep(PATIENCE)
+        store.read_on()
+        self.wait_for(lambda: len(store.lines()) + len(kept) == len(LONG), "what the system had has come")
+        self.assertEqual([*store.lines(), *kept], LONG)
 
     def test_a_store_that_takes_slowly(self):
         """A stop while the file is being sent keeps what the store did not take, then what came meanwhile; nothing is lost."""

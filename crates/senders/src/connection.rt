@@ -5,6 +5,7 @@ use crate::wire::Wire;
 use log_lines::Why;
 use mio::net::TcpStream;
 use relay_base::NoMemory;
+use socket_options::leave_rest_to_system;
 use std::alloc::Global;
 use std::io::{ErrorKind, Read};
 use std::net::Shutdown;
@@ -106,6 +107,7 @@ impl Connection {
     /// Nothing more is written: the store sees the end once it has read what was written.
     pub(crate) fn end_writes(&self) {
         if let Some(socket) = self.wire.socket() {
+            leave_rest_to_system(socket);
             // What cannot be half-closed has failed.
             let _ = socket.shutdown(Shutdown::Write);
         }

@@ -3,6 +3,7 @@
 use crate::store_end::{EndNotes, StoreEnd};
 use log_lines::Why;
 use mio::net::TcpStream;
+use socket_options::leave_rest_to_system;
 use std::net::Shutdown;
 use std::sync::atomic::{AtomicBool, Ordering};
 
@@ -62,6 +63,7 @@ impl Wire {
         }
         self.end.note_half_closed();
         if let Some(socket) = &self.socket {
+            leave_rest_to_system(socket);
             if socket.shutdown(Shutdown::Write).is_err() {
                 self.end.note_lost(loss_of(socket));
             }

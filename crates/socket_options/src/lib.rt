@@ -5,10 +5,11 @@
 //! ```text
 //! notice_lost_producers(&listener); // and so do the connections that it takes
 //! notice_lost_store(&stream);
+//! leave_rest_to_system(&stream); // before it is closed
 //! ```
 #![tactic(auto)]
 
 mod lost_hosts;
 mod option;
 
-pub use lost_hosts::{notice_lost_producers, notice_lost_store};
+pub use lost_hosts::{leave_rest_to_system, notice_lost_producers, notice_lost_store};

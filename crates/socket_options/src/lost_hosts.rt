@@ -13,6 +13,9 @@ const TCP_RTO_MAX_MS: i32 = 44;
 /// a store that comes back before that gets all within this time.
 const BETWEEN_SENDS_MS: i32 = 1_500;
 
+/// So long it waits at most where nobody asks for less.
+const USUAL_BETWEEN_SENDS_MS: i32 = 120_000;
+
 /// When a silent connection is probed.
 #[derive(Clone, Copy)]
 struct Probes {
@@ -44,6 +47,18 @@ pub fn notice_lost_store(stream: &TcpStream) {
     let descriptor = stream.as_raw_fd();
     probe(descriptor, OF_STORES);
     set_option(descriptor, IPPROTO_TCP, TCP_RTO_MAX_MS, BETWEEN_SENDS_MS);
+}
+
+/// Leaves the rest to the system, of a connection to a store that is about to be closed. With the wait of [`notice_lost_store`]
+/// Linux would drop what it has for a store that reads nothing within a second and a half of the close; with the usual one it
+/// has patience for minutes.
+pub fn leave_rest_to_system(stream: &TcpStream) {
+    set_option(
+        stream.as_raw_fd(),
+        IPPROTO_TCP,
+        TCP_RTO_MAX_MS,
+        USUAL_BETWEEN_SENDS_MS,
+    );
 }
 
 /// Has the system notice that the host of a producer is gone: of each connection that the listener takes, since these have the
