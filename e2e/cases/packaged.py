@@ -90,7 +90,7 @@ class Packaged(harness.Suite):
             self.skipTest("lintian is missing")
         words = [*USER, "lintian", "--fail-on", "error,warning", "--tag-display-limit", "0", self.package()]
         os.chmod(self.folder, 0o755)
-        ran = subprocess.run(words, stdin=subprocess.DEVNULL, stdout=subprocess.PIPE, stderr=subprocess.STDOUT,
+        ran = subprocess.run(words, cwd=self.folder, stdin=subprocess.DEVNULL, stdout=subprocess.PIPE, stderr=subprocess.STDOUT,
                              timeout=harness.LIMIT, text=True)
         self.assertEqual((ran.returncode, ran.stdout), (0, ""))
 

@@ -232,6 +232,22 @@ class Supervised(WithRelays):
             os.kill(child.pid, signal.SIGTERM)
             self.assertEqual(child.wait(LIMIT), 0)
 
+    def test_a_key(self):
+        """Signals do the same at a relay whose admin port has one."""
+        key = self.folder / "key"
+        key.write_text("0123456789abcdef\n", encoding="ascii")
+        key.chmod(0o600)
+        for words in (("--admin-key", os.fspath(key)), (f"--admin-key={key}",)):
+            with self.subTest(words), self.started([*self.words(), "--log", *words]) as child:
+                relay = self.ready(child)
+                self.assertEqual(relay.command(b"report"), b"wrong key\n")
+                log = Log(child.stderr)
+                os.kill(child.pid, signal.SIGHUP)
+                self.wait_for(lambda: said(log, b"relay reloaded:") == 1, "it has read them")
+                os.kill(child.pid, signal.SIGTERM)
+                self.assertEqual((child.wait(LIMIT), child.stdout.read()), (0, b"settled\n"))
+                log.thread.join(LIMIT)
+
     def test_the_status_is_that_of_the_relay(self):
         with self.started(self.words(MAX_QUEUE_SIZE="0")) as child:
             self.assertEqual(self.ended(child), (1, b"", b"relayd: config: MAX_QUEUE_SIZE: BadNumber\n"))
