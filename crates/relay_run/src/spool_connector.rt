@@ -68,12 +68,12 @@ impl<'n, W: Drop> SenderSpool<'n, W> {
     /// From now on these are the files of a destination. The connection that the earlier one went out on goes on, if it is
     /// there.
     pub(crate) fn begin(&mut self, place: usize, files: Option<DestSpool>, sink: Option<W>) {
-        note_behind(self.notes.get(place), &files);
+        let mut files = files;
+        note_behind(self.notes.get(place), &mut files, &mut self.piece);
         let Some(state) = self.dests.get_mut(place) else {
             drop((files, sink));
             return;
         };
-        let mut files = files;
         match sink {
             Some(sink) => state.connection.keep(sink),
             None => reconnect(&mut files),
@@ -96,9 +96,10 @@ fn reconnect(files: &mut Option<DestSpool>) {
     }
 }
 
-/// Notes whether an earlier file of a destination is to be sent.
-fn note_behind(notes: Option<&SpoolNotes>, spool: &Option<DestSpool>) {
+/// Notes whether an earlier file of a destination is to be sent, and what waits in it.
+fn note_behind(notes: Option<&SpoolNotes>, spool: &mut Option<DestSpool>, piece: &mut [u8]) {
     if let (Some(notes), Some(spool)) = (notes, spool) {
+        spool.note_waiting(piece, notes);
         if spool.is_behind() {
             notes.note_behind();
         }
@@ -267,6 +268,7 @@ impl<'n, W: Write + Drop> SenderSpool<'n, W> {
         let state = self.dests.get_mut(place)?;
         let notes = self.notes.get(place);
         let given = state.send(disk, &mut self.piece, notes);
+        state.note_waiting(&mut self.piece, notes);
         if let (Some(notes), false) = (notes, state.is_behind()) {
             notes.note_sent(matches!(given, Some((_, true))));
         }
@@ -297,6 +299,13 @@ impl<W: Write + Drop> SpooledDest<W> {
     fn lose(&mut self) {
         if let Some(spool) = &mut self.spool {
             spool.lose(&mut self.connection);
+        }
+    }
+
+    /// Notes what waits in the earlier file.
+    fn note_waiting(&mut self, piece: &mut [u8], notes: Option<&SpoolNotes>) {
+        if let (Some(spool), Some(notes)) = (&mut self.spool, notes) {
+            spool.note_waiting(piece, notes);
         }
     }
 

@@ -11,7 +11,7 @@ use conf_text::Dest;
 use dest_queue::{Counts, EarlierCounts};
 use log_lines::{DestNotes, ReceiverNotes};
 use relay_base::NoMemory;
-use spool::SpoolNotes;
+use spool::{SpoolNotes, Waiting};
 use std::alloc::Global;
 use std::sync::Arc;
 use std::sync::atomic::AtomicU64;
@@ -59,6 +59,17 @@ impl<'x> DestSources<'x> {
             ..*earlier
         };
         earlier.with_rest(rest.queued().saturating_add(in_file), counts)
+    }
+
+    /// What waits in the file of a destination.
+    pub fn waiting_at(&self, place: usize) -> Waiting {
+        let Some(end) = self.end else {
+            return Waiting::nothing();
+        };
+        match end.spool_notes().get(place) {
+            Some(notes) => notes.waiting(),
+            None => Waiting::nothing(),
+        }
     }
 
     /// Whether a file of a destination is not sent yet.

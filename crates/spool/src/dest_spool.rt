@@ -9,7 +9,7 @@ use crate::held_text::end_of_lines;
 use crate::limited_file::LimitedFile;
 use crate::open_folder::{OpenFault, OpenFolder};
 use crate::spool_disk::SpoolDisk;
-use crate::spool_notes::SpoolNotes;
+use crate::spool_notes::{SpoolNotes, Waiting};
 use crate::turn::Turn;
 use conf_text::Dest;
 use relay_base::NoMemory;
@@ -139,6 +139,9 @@ impl DestSpool {
         if length > held.end() {
             self.cut(disk, folder, held, length)?;
         }
+        if !held.is_sent() {
+            folder.tell_waiting(held, &self.names)?;
+        }
         Ok(!held.is_sent() || held.has_begun_line())
     }
 
@@ -249,6 +252,18 @@ impl DestSpool {
             Some(held) => !held.has_failed(),
             None => false,
         }
+    }
+
+    /// Notes what waits in the earlier file.
+    pub fn note_waiting(&mut self, piece: &mut [u8], notes: &SpoolNotes) {
+        let waiting = match &mut self.held {
+            Some(held) => {
+                held.count_lines(piece);
+                held.waiting()
+            }
+            None => Waiting::nothing(),
+        };
+        notes.note_waiting(waiting);
     }
 
     /// The connection that the file goes out on is gone, if there is one: what it did not take whole goes to the next one.

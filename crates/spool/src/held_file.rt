@@ -1,11 +1,15 @@
 //! A file that holds lines which are to be sent.
 
 use crate::file_connection::FileConnection;
+use crate::held_text::lines_between;
 use crate::sent_table::SentPlace;
+use crate::spool_notes::Waiting;
 use crate::turn::Turn;
 use backlog::Cursor;
+use memchr::memchr_iter;
 use std::fs::File;
 use std::io::Write;
+use std::os::unix::fs::MetadataExt;
 
 /// How far a file is sent, and where that is noted, if it is.
 #[derive(Drop)]
@@ -30,6 +34,8 @@ pub(crate) struct HeldFile {
     file: File,
     end: u64,
     sent: SentPart,
+    // How many of its lines wait, once they were counted.
+    lines: Option<u64>,
     // Whether it has something behind its whole lines, and so is put aside and not removed.
     has_begun_line: bool,
     // Whether it could not be read, so that nothing more of it is sent in this run.
@@ -43,6 +49,7 @@ impl HeldFile {
             file,
             end,
             sent,
+            lines: None,
             has_begun_line: false,
             has_failed: false,
         }
@@ -82,6 +89,31 @@ impl HeldFile {
         self.sent.cursor.start() >= self.end
     }
 
+    /// Counts the lines that wait, unless they were counted: reads them once.
+    pub(crate) fn count_lines(&mut self, piece: &mut [u8]) {
+        if self.lines.is_none() {
+            let start = self.sent.cursor.start();
+            self.lines = Some(lines_between(&self.file, start, self.end, piece));
+        }
+    }
+
+    /// What waits in it.
+    pub(crate) fn waiting(&self) -> Waiting {
+        Waiting {
+            datapoints: self.lines.unwrap_or(0),
+            bytes: self.end.saturating_sub(self.sent.cursor.start()),
+            written_at: written_at(&self.file),
+        }
+    }
+
+    /// Its connection took these bytes: the lines that they end wait no more.
+    fn pass_lines(&mut self, bytes: &[u8]) {
+        if let Some(lines) = self.lines {
+            let passed = memchr_iter(b'\n', bytes).count() as u64;
+            self.lines = Some(lines.saturating_sub(passed));
+        }
+    }
+
     pub(crate) fn has_begun_line(&self) -> bool {
         self.has_begun_line
     }
@@ -115,7 +147,10 @@ impl HeldFile {
         if let Some(place) = &self.sent.place {
             place.begin_piece();
         }
+        let before = self.sent.cursor.next();
         let turn = connection.send(&self.file, self.end, &mut self.sent.cursor, piece);
+        let taken = self.sent.cursor.next().saturating_sub(before) as usize;
+        self.pass_lines(&piece[..taken.min(piece.len())]);
         if let Some(place) = &mut self.sent.place {
             place.note(&self.file, self.sent.cursor.start());
         }
@@ -149,5 +184,13 @@ impl HeldFile {
             ..
         } = self;
         (file, end, sent)
+    }
+}
+
+/// The second since 1970 at which a file was last written; 0 if the system does not say.
+fn written_at(file: &File) -> u64 {
+    match file.metadata() {
+        Ok(metadata) => u64::try_from(metadata.mtime()).unwrap_or(0),
+        Err(_) => 0,
     }
 }

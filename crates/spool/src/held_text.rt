@@ -3,6 +3,7 @@ ghost use Rattle.std.specs.Prelude.{◌≡◌, ◌+◌, ◌^◌, ◌<◌, ◌≤
 ghost use Rattle.spool.specs.Held.{lines_end};
 
 use backlog::whole_length;
+use memchr::memchr_iter;
 use std::fs::File;
 use std::io;
 use std::io::ErrorKind;
@@ -88,4 +89,22 @@ pub fn end_of_lines<F: HeldText>(file: &F, size: u64, piece: &mut [u8]) -> io::R
         end = start;
     }
     Ok(0)
+}
+
+/// How many bytes 10 a file has from one place up to another, as far as it can be read: piece by piece.
+pub(crate) fn lines_between<F: HeldText>(file: &F, start: u64, end: u64, piece: &mut [u8]) -> u64 {
+    let (mut next, mut lines): (u64, u64) = (start, 0);
+    for _ in 0..u64::MAX {
+        let most = end.saturating_sub(next).min(piece.len() as u64) as usize;
+        if most == 0 {
+            break;
+        }
+        let Ok(count) = read_some(file, next, &mut piece[..most]) else {
+            break;
+        };
+        let read = &piece[..count.min(most)];
+        lines = lines.saturating_add(memchr_iter(b'\n', read).count() as u64);
+        next = next.saturating_add(count as u64);
+    }
+    lines
 }

@@ -35,5 +35,5 @@ pub use open_folder::{FolderAt, OpenFault};
 pub use pieces::{SendOutcome, send_piece};
 pub use spool_disk::SpoolDisk;
 pub use spool_files::{SpoolFiles, is_of_no_destination, open_all, open_others};
-pub use spool_notes::{SpoolFailure, SpoolNotes};
+pub use spool_notes::{SpoolFailure, SpoolNotes, Waiting};
 pub use turn::Turn;

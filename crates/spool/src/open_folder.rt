@@ -169,6 +169,21 @@ impl<'a> OpenFolder<'a> {
         }
     }
 
+    /// Counts what waits in a file; the news say it.
+    pub(crate) fn tell_waiting(
+        &mut self,
+        held: &mut HeldFile,
+        names: &FileNames,
+    ) -> Result<(), AllocError> {
+        held.count_lines(&mut self.piece);
+        let (dest, waiting) = (names.name(), held.waiting());
+        let (datapoints, bytes) = (waiting.datapoints, waiting.bytes);
+        write!(
+            self.news,
+            "destination {dest} spool waits, {datapoints} datapoints, {bytes} bytes\n"
+        )
+    }
+
     /// The news of what a file had behind its whole lines.
     pub(crate) fn tell_begun_line(
         &mut self,

@@ -23,6 +23,32 @@ pub struct SpoolNotes {
     error: AtomicI32,
     // What is to be said of the earlier file.
     news: OnceLock<String>,
+    // What of it waits, and when it was last written.
+    waiting_datapoints: AtomicU64,
+    waiting_bytes: AtomicU64,
+    written_at: AtomicU64,
+}
+
+/// What waits in a file: what no connection has taken whole.
+#[derive(Clone, Copy)]
+pub struct Waiting {
+    /// The datapoints, as far as the file can be read.
+    pub datapoints: u64,
+    /// Their bytes.
+    pub bytes: u64,
+    /// The second since 1970 at which the file was last written.
+    pub written_at: u64,
+}
+
+impl Waiting {
+    /// Nothing waits.
+    pub fn nothing() -> Waiting {
+        Waiting {
+            datapoints: 0,
+            bytes: 0,
+            written_at: 0,
+        }
+    }
 }
 
 /// Why a new file took no more.
@@ -48,6 +74,9 @@ impl SpoolNotes {
             is_lost: AtomicBool::new(false),
             error: AtomicI32::new(0),
             news: OnceLock::new(),
+            waiting_datapoints: AtomicU64::new(0),
+            waiting_bytes: AtomicU64::new(0),
+            written_at: AtomicU64::new(0),
         }
     }
 
@@ -136,6 +165,23 @@ impl SpoolNotes {
     /// The system's error by which the new file took no more; 0 if it had none.
     pub fn error_code(&self) -> i32 {
         self.error.load(Ordering::SeqCst)
+    }
+
+    /// This waits in the earlier file.
+    pub(crate) fn note_waiting(&self, waiting: Waiting) {
+        self.waiting_datapoints
+            .store(waiting.datapoints, Ordering::SeqCst);
+        self.waiting_bytes.store(waiting.bytes, Ordering::SeqCst);
+        self.written_at.store(waiting.written_at, Ordering::SeqCst);
+    }
+
+    /// What waits in the earlier file; each number by itself, since the sender may send some of it at the same time.
+    pub fn waiting(&self) -> Waiting {
+        Waiting {
+            datapoints: self.waiting_datapoints.load(Ordering::SeqCst),
+            bytes: self.waiting_bytes.load(Ordering::SeqCst),
+            written_at: self.written_at.load(Ordering::SeqCst),
+        }
     }
 
     /// These news are to be said of the earlier file. Only the first ones are.
