@@ -222,7 +222,7 @@ def pleases_lintian(package, checks):
         with open(place, "wb") as copy:
             shutil.copyfileobj(file, copy)
         words = ["setpriv", f"--reuid={NOBODY}", f"--regid={NOBODY}", "--clear-groups", "lintian", "--fail-on", "error", place]
-        ran = subprocess.run(words, stdin=subprocess.DEVNULL, stdout=subprocess.PIPE, stderr=subprocess.STDOUT, text=True)
+        ran = subprocess.run(words, cwd=folder, stdin=subprocess.DEVNULL, stdout=subprocess.PIPE, stderr=subprocess.STDOUT, text=True)
     checks.that("lintian finds no error in it", ran.returncode == 0, ran.stdout)
 
 

@@ -41,7 +41,7 @@ epoch=$("$top/packaging/epoch.sh")
 folder=$(mktemp -d)
 trap 'rm -rf "$folder"' EXIT
 root=$folder/root
-mkdir -p "$folder/state" "$root/etc/relayd"
+mkdir -p "$folder/state" "$root/etc/relayd" "$root/var/lib"
 install -d -m 1777 "$root/tmp"
 
 install -D -m 755 "$program" "$root/usr/bin/relayd"

@@ -39,7 +39,12 @@ class AdminKey(Reloads):
             relay.store, relay.dests = store, dests
             yield relay
             if relay.child.poll() is None:
-                self.asked(relay, "stop", "--wait")
+                self.ends(relay)
+
+    def ends(self, relay):
+        """The relay stops, and its log has been read."""
+        self.assertEqual(self.asked(relay, "stop", "--wait"), Ran(0, b"stopping\n", b""))
+        relay.log.thread.join(LIMIT)
 
     def asked(self, relay, *words, key="key"):
         """How a command of a client ends, with a key or without."""
@@ -61,6 +66,7 @@ class AdminKey(Reloads):
             files = ("--config", self.path("config"), "--rules", self.path("rules"))
             self.assertEqual(self.asked(relay, "restart", *files).out, b"ok 1 destinations\nstopping\n")
             self.assertEqual(relay.child.wait(LIMIT), 0)
+            relay.log.thread.join(LIMIT)
 
     def test_without_the_key(self):
         """No command is carried out without it, or with another one, in whatever form; each has its one answer."""
@@ -80,7 +86,7 @@ class AdminKey(Reloads):
             self.assertEqual(relay.command(b"key %s\nreload\nconfig /x\n" % KEY.encode(), b""), UNKNOWN)
             relay.lines(b"a 1 1700000000\n")
             self.wait_for(lambda: relay.store.lines() == [b"a 1 1700000000"], "the relay sends")
-            self.wait_for(lambda: any(line.startswith(b"admin: ") for line in relay.log.lines), "the log counts them")
+            self.wait_for(lambda: self.refusals(relay), "the log counts them")
 
     def test_in_pieces(self):
         """A key and a command are put together."""
@@ -101,7 +107,7 @@ class AdminKey(Reloads):
             self.assertEqual(relay.command(b"key %s\nreport" % KEY.encode()), UNKNOWN)
             self.assertEqual(self.asked(relay, "report").status, 0)
             self.assertEqual(self.asked(relay, "reload"), RELOADED)
-            self.assertEqual(self.asked(relay, "stop", "--wait"), Ran(0, b"stopping\n", b""))
+            self.ends(relay)
 
     def test_a_browser(self):
         """What begins like a request of HTTP is no command, with a key and without; it is counted."""
@@ -111,11 +117,28 @@ class AdminKey(Reloads):
             with self.subTest(options), self.running(dests, ALL.format(*dests), options=options) as relay:
                 for text in (POST % relay.admin, b"GET /stop HTTP/1.1\r\n\r\nstop\n", b"PUT stop\r\nstop\nstop\n"):
                     self.assertEqual(relay.command(text, b""), UNKNOWN)
-                self.wait_for(lambda: any(line.startswith(b"admin: ") for line in relay.log.lines), "the log counts them")
-                line = next(line for line in relay.log.lines if line.startswith(b"admin: "))
-                self.assertRegex(line, rb"\Aadmin: [123] unknown commands, 0 without the key\n\Z")
+                self.wait_for(lambda: self.refusals(relay), "the log counts them")
+                line = self.refusals(relay)[0]
+                self.assertRegex(line, rb"\Aadmin: (1 unknown command|[23] unknown commands), 0 without the key\n\Z")
                 self.assertIsNone(relay.child.poll())
-                self.asked(relay, "stop", "--wait")
+                self.ends(relay)
+
+    def test_the_rest_is_said_at_the_end(self):
+        """The log has one line a minute, also over a reload, and at the end what was refused since."""
+        with self.keyed() as relay:
+            self.assertEqual(relay.command(b"hello"), UNKNOWN)
+            self.wait_for(lambda: self.refusals(relay), "the log counts it")
+            self.assertEqual(relay.command(b"stop"), WRONG)
+            self.assertEqual(self.asked(relay, "reload"), RELOADED)
+            for _ in range(2):
+                self.assertEqual(relay.command(b"hello"), UNKNOWN)
+            self.ends(relay)
+            self.assertEqual(self.refusals(relay), [b"admin: 1 unknown command, 0 without the key\n",
+                                                    b"admin: 2 unknown commands, 1 without the key\n"])
+
+    def refusals(self, relay):
+        """The lines of the log on refused commands."""
+        return [line for line in list(relay.log.lines) if line.startswith(b"admin: ")]
 
     def test_the_file(self):
         """One that others may read, or that has no key, is refused by its name, by the relay and by its clients."""

@@ -45,7 +45,7 @@ class LogForms(WithRelays):
             self.assertTrue(before <= time.mktime(stamp) - time.timezone <= time.time(), match[1])
         found = {(match[2], match[3]) for match in matches}
         self.assertLessEqual({(b"info", f"destination {there} connected".encode()),
-                              (b"warning", f"destination {away} cannot connect: connection refused (error 111)".encode()),
+                              (b"warning", f"destination {away} cannot connect to {away}: connection refused (error 111)".encode()),
                               (b"warning", b"receiver line: 1 bad line"),
                               (b"error", f"destination {away} stopped, 1 datapoints not sent".encode()),
                               (b"error", b"relay stopped, 1 datapoints not sent")}, found)
@@ -56,7 +56,7 @@ class LogForms(WithRelays):
         for each in objects:
             self.assertRegex(each.pop("time"), r"\A\d{4}-\d\d-\d\dT\d\d:\d\d:\d\dZ\Z")
         for wanted in ({"level": "info", "destination": there, "what": "connected"},
-                       {"level": "warning", "destination": away, "what": "cannot connect: connection refused (error 111)"},
+                       {"level": "warning", "destination": away, "what": f"cannot connect to {away}: connection refused (error 111)"},
                        {"level": "warning", "receiver": "line", "what": "1 bad line", "counts": {"bad_lines": 1}},
                        {"level": "error", "what": "stopped, 1 datapoints not sent", "counts": {"not_sent": 1}}):
             self.assertIn(wanted, objects)

@@ -197,7 +197,9 @@ class UpToDate(harness.Suite):
 
     def test_the_cases_of_attacks(self):
         """Each case that the page names is there, and each attack has a row."""
-        named = CASE.findall(text_of("SECURITY.md"))
+        text = text_of("SECURITY.md")
+        named = CASE.findall(text)
+        self.assertEqual(len(named), len(re.findall(r"`[\w.]*test_\w+`", text)), "a case has its subject and its suite")
         for subject, suite, case in named:
             self.assertTrue(hasattr(getattr(importlib.import_module(f"cases.{subject}"), suite), case), case)
         attacks = re.findall(r"(?m)^    def (test_\w+)", text_of(ATTACKED))

@@ -393,12 +393,12 @@ class Ends(WithRelays):
             self.settles(relay, b"sealed 0\n")
 
     def test_threads_of_their_own(self):
-        """Each receiver and each sender has one, and those that are not enabled have none."""
+        """Each receiver and each sender has one, and the files of a reload; those that are not enabled have none."""
         dests = named(*free_ports(2))
         for off, receivers in (({}, {"line", "pickle", "udp"}), ({"PICKLE_RECEIVER_PORT": "0"}, {"line", "udp"})):
             with self.subTest():
                 with self.relay(dests, ONE_RULE.format(", ".join(dests)), senders=2, **off) as relay:
-                    names = receivers | {"sender 0", "sender 1"}
+                    names = receivers | {"sender 0", "sender 1", "file reader"}
                     self.wait_for(lambda: names <= set(relay.thread_names()), "each thread has its name")
                     self.wait_for(lambda: len(relay.thread_names()) == 1 + len(names), "there is no other")
                     self.settles(relay)

@@ -188,7 +188,7 @@ class Supervised(WithRelays):
             os.kill(child.pid, signal.SIGHUP)
             log = Log(child.stderr)
             self.wait_for(lambda: said(log, b"relay reloaded:") == 1, "it has read them")
-            self.assertEqual(said(log, b"relayd: "), 0)
+            self.assertEqual(said(log, b"relayd: "), said(log, b"relayd: note: "))
             os.kill(child.pid, signal.SIGTERM)
             self.assertEqual(child.wait(LIMIT), 0)
 

@@ -12,7 +12,7 @@ use crate::relay::Relay;
 use crate::reload_source::{READING_TIMEOUT_MS, RefusedReload, ReloadSource};
 use crate::spool_folder::SpoolFolder;
 use crate::start::Process;
-use admin_port::{AdminListener, Answers, Refusals};
+use admin_port::{AdminListener, Answers};
 use admin_report::report;
 use conf_text::Dest;
 use dest_queue::Counts;
@@ -23,7 +23,7 @@ use receivers::{ClosingWait, ReceiverControl};
 use relay_base::{DestId, NoMemory, add, put};
 use relay_files::RunConfiguration;
 use relay_watchers::{LogEnd, StatusServer};
-use run_state::DestSources;
+use run_state::{DestSources, EndState};
 use spool::SpoolDisk;
 use std::alloc::Global;
 use std::net::Net;
@@ -35,9 +35,6 @@ const PAUSE_MS: u64 = 1_000;
 
 /// How many milliseconds a turn waits at most while the files of a reload are read.
 const READING_PAUSE_MS: u64 = 1;
-
-/// How many milliseconds pass at least between two lines of the log on connections that were refused what they asked for.
-const REFUSALS_PAUSE_MS: u64 = 60_000;
 
 /// How many milliseconds a turn waits at most at the end of a run: so late is seen what it waits for.
 const END_PAUSE_MS: u64 = 1;
@@ -178,10 +175,9 @@ fn answer_until_ended<B: Set, R: Wait + Clock + Net + SpoolDisk, F: ReloadSource
     let watched = ReportSource::new(relay, files);
     let times = SystemTimes::since(rt, relay.began);
     let mut reading = None;
-    let mut said = SaidRefusals::new(&ports.admin);
     for _ in rt.forever() {
         let millis = times.millis();
-        said.say(rt, alloc, relay, ports.admin.refusals(), millis);
+        say_refusals(rt, alloc, relay, ports, millis);
         if ports
             .admin
             .take_turn(rt, alloc, &watched, millis, pause_of(reading))
@@ -211,48 +207,30 @@ fn answer_until_ended<B: Set, R: Wait + Clock + Net + SpoolDisk, F: ReloadSource
     unreachable!()
 }
 
-/// What the log has of connections that were refused what they asked for, and the milliseconds of its last line.
-#[derive(Clone, Copy)]
-struct SaidRefusals {
-    refusals: Refusals,
-    since: Option<u64>,
+/// Has the log say which connections were refused what they asked for, once a minute at most.
+fn say_refusals<B: Set, R: Wait>(
+    rt: &R,
+    alloc: Global,
+    relay: &Relay<B>,
+    ports: &mut FirstPorts,
+    millis: u64,
+) {
+    let refusals = ports.admin.refusals();
+    if let Some(line) = ports.said.line(alloc, refusals, millis) {
+        relay.late_news.put(rt, line);
+    }
 }
 
-impl SaidRefusals {
-    /// The log has all of this port.
-    fn new(admin: &AdminListener) -> SaidRefusals {
-        SaidRefusals {
-            refusals: admin.refusals(),
-            since: None,
-        }
-    }
-
-    /// Has the log say what is new, once a minute at most. Without memory for the line it is said later.
-    fn say<B: Set, R: Wait>(
-        &mut self,
-        rt: &R,
-        alloc: Global,
-        relay: &Relay<B>,
-        refusals: Refusals,
-        millis: u64,
-    ) {
-        let is_early = match self.since {
-            Some(since) => millis.saturating_sub(since) < REFUSALS_PAUSE_MS,
-            None => false,
-        };
-        if is_early || refusals == self.refusals {
-            return;
-        }
-        let unknown = refusals.unknown.saturating_sub(self.refusals.unknown);
-        let keyless = refusals.keyless.saturating_sub(self.refusals.keyless);
-        let line = format!(in alloc;
-            "admin: {unknown} unknown commands, {keyless} without the key\n"
-        );
-        if let Ok(line) = line {
-            relay.late_news.put(rt, line);
-            self.refusals = refusals;
-            self.since = Some(millis);
-        }
+/// Has the log say the rest of them: no more commands are answered.
+fn say_last_refusals<B: Set, R: Wait>(
+    rt: &R,
+    alloc: Global,
+    relay: &Relay<B>,
+    ports: &mut FirstPorts,
+) {
+    let refusals = ports.admin.refusals();
+    if let Some(line) = ports.said.last_line(alloc, refusals) {
+        relay.late_news.put(rt, line);
     }
 }
 
@@ -413,21 +391,12 @@ impl<B: Set, R: Wait + Clock + Net + SpoolDisk, L: Drop, F: ReloadSource, K: Rec
     }
 
     fn drain(&mut self, rt: &R, alloc: Global) {
-        let relay = self.relay;
-        let Some(end) = relay.state.end() else {
-            return;
-        };
-        let files = self.files;
-        let admin = &mut self.state.ports.admin;
-        let draining = DrainWait::begin(relay, end, SystemTimes::since(rt, relay.began).millis());
-        answer_until_over(rt, alloc, admin, relay, files, draining);
-        if end.is_spooled() {
-            relay.state.signals().begin_spooling();
-            relay.gate.wake_all();
-            let millis = SystemTimes::since(rt, relay.began).millis();
-            let writing = FilesWait::begin(relay, end, millis);
-            answer_until_over(rt, alloc, admin, relay, files, writing);
+        let (relay, files) = (self.relay, self.files);
+        let ports = &mut self.state.ports;
+        if let Some(end) = relay.state.end() {
+            answer_until_drained(rt, alloc, &mut ports.admin, relay, files, end);
         }
+        say_last_refusals(rt, alloc, relay, ports);
     }
 
     fn wake_senders(&self) {
@@ -468,6 +437,27 @@ fn away_of<B: Set>(relay: &Relay<B>) -> u64 {
         bit = bit.wrapping_mul(2);
     }
     away
+}
+
+/// Answers commands until the senders have sent as much as they are to, and the files have the rest.
+fn answer_until_drained<R: Wait + Clock + Net, B: Set, F: ReloadSource>(
+    rt: &R,
+    alloc: Global,
+    listener: &mut AdminListener,
+    relay: &Relay<B>,
+    files: &F,
+    end: &EndState,
+) {
+    let millis = SystemTimes::since(rt, relay.began).millis();
+    let draining = DrainWait::begin(relay, end, millis);
+    answer_until_over(rt, alloc, listener, relay, files, draining);
+    if end.is_spooled() {
+        relay.state.signals().begin_spooling();
+        relay.gate.wake_all();
+        let millis = SystemTimes::since(rt, relay.began).millis();
+        let writing = FilesWait::begin(relay, end, millis);
+        answer_until_over(rt, alloc, listener, relay, files, writing);
+    }
 }
 
 /// Answers commands until what a run waits for at its end is over.

@@ -41,6 +41,7 @@ mod rest_files;
 mod run_command;
 mod running;
 mod runtime;
+mod said_refusals;
 mod sender_job;
 mod sender_places;
 mod sender_setup;

@@ -6,6 +6,7 @@ ghost use Rattle.relay_run.specs.Running.{is_start_fault};
 use crate::datagram_room::ask_for_room;
 use crate::descriptors::{room_of, share_room};
 use crate::options::{RunOptions, StatusOptions};
+use crate::said_refusals::SaidRefusals;
 use admin_port::AdminListener;
 use conf_text::Settings;
 use mio::net::{TcpListener, UdpSocket};
@@ -63,11 +64,12 @@ pub(crate) struct Ports {
     pub(crate) status: Option<StatusServer>,
 }
 
-/// The ports that the first thread keeps from one run to the next: that of commands, and another of each port of receivers, so
-/// that these stay open between two runs.
+/// The ports that the first thread keeps from one run to the next: that of commands, with what the log has of those that were
+/// refused there, and another of each port of receivers, so that these stay open between two runs.
 #[derive(Drop)]
 pub(crate) struct FirstPorts {
     pub(crate) admin: AdminListener,
+    pub(crate) said: SaidRefusals,
     pub(crate) kept: Vec<BoundPort>,
 }
 
@@ -129,6 +131,7 @@ pub(crate) fn bind_all<R: Net>(
         receivers,
         first: FirstPorts {
             admin,
+            said: SaidRefusals::none(),
             kept: Vec::new(alloc),
         },
         status: None,

@@ -68,9 +68,10 @@ impl<R: Threads + Wait + ReadsFiles + Copy + Send + Drop + 'static> RelayFiles<R
         let paths = absolute_paths(host, alloc, paths)?;
         let (their_paths, theirs) = (copy_of(&paths)?, Arc::try_clone(&shared)?);
         let name = String::from_str(alloc, "file reader")?;
-        let started = Builder::new()
-            .name(name)
-            .spawn(&rt, move || read_when_asked(&rt, alloc, &their_paths, &theirs));
+        let started = Builder::new().name(name).spawn(
+            &rt,
+            move || read_when_asked(&rt, alloc, &their_paths, &theirs),
+        );
         match started {
             Ok(_) => Ok(RelayFiles {
                 rt,
