@@ -100,6 +100,7 @@ class Reported(WithRelays):
                 self.assertTrue(0 <= values[name + "cpuUsage"] <= 800, values)
                 self.assertEqual(values[f"{name}destinations.127_0_0_1:{store.port}:a.relayMaxQueueLength"], 0)
                 self.settles(relay)
+                time.sleep(1)  # a start is known by its second
 
     def test_the_table_of_names(self):
         """docs/OPERATING.md has each name that comes, and those of Prometheus are served."""
