@@ -1,4 +1,4 @@
-"""The key of the admin port: who may command a relay, and what is told of others."""
+"""The key of the admin port: who may command a relay, and what the others learn."""
 
 import contextlib
 import os

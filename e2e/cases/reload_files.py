@@ -1,4 +1,4 @@
-"""The files of a reload: which are read, how far, and what is told of them."""
+"""The files of a reload: which the relay reads, how far, and what it answers of them."""
 
 import contextlib
 import os
@@ -87,7 +87,7 @@ class ReloadFiles(Reloads):
             self.stops(relay)
 
     def test_notes(self):
-        """They are those of `check`, of the files as the user who asks may read them."""
+        """They are those of `check`, and the user who asks reads the files."""
         with self.one() as relay:
             self.write("config", FAULTY)
             ran = self.reload(relay, "--explain")
