@@ -16,6 +16,9 @@ use relay_files::{Status, write_out};
 use std::alloc::Global;
 use std::io::Write;
 
+/// The words before a reason why files were not read.
+const UNREAD: &[u8] = b"files: ";
+
 /// Prints what the relay with this admin port has counted, in this form.
 pub fn report(rt: &HostRuntime, alloc: Global, admin: &AdminAt, form: OutputForm) -> Status {
     let key = match key_at(rt, alloc, &admin.key) {
@@ -72,27 +75,23 @@ pub fn stop(rt: &HostRuntime, alloc: Global, admin: &AdminAt, waits: bool) -> St
 }
 
 /// Has the relay with this admin port read its files again, and prints what it answers: `reloaded` and what changed, or on
-/// standard error why it goes on as it was. If notes are asked for, it reads the same files before.
+/// standard error why it goes on as it was. If notes are asked for, it reads the same files then, unless they did not answer
+/// the relay.
 pub fn reload(rt: &HostRuntime, alloc: Global, admin: &AdminAt, explain: Explain) -> Status {
     let key = match key_at(rt, alloc, &admin.key) {
         Ok(key) => key,
         Err(status) => return status,
     };
     let relay = relay_at(admin, &key);
-    let notes = match explain {
-        Explain::Nothing => Ok(None),
-        _ => notes_of_relay(rt, alloc, relay),
+    let answer = match answer_to(rt, alloc, relay, AdminCommand::Reload) {
+        Ok(answer) => answer,
+        Err(fault) => return status_of(rt, admin.port, Err(fault)),
     };
-    let status = match answer_to(rt, alloc, relay, AdminCommand::Reload) {
-        Ok(answer) => {
-            let status = say_answer(rt, answer.as_slice());
-            drop(answer);
-            status
-        }
-        Err(fault) => status_of(rt, admin.port, Err(fault)),
-    };
-    if let Ok(Some(notes)) = notes {
-        let _ = write(rt, Ok(notes));
+    let status = say_answer(rt, answer.as_slice());
+    let are_read = !are_unread(answer.as_slice());
+    drop(answer);
+    if are_read && explain != Explain::Nothing {
+        write_notes(rt, alloc, relay);
     }
     status
 }
@@ -117,6 +116,21 @@ fn say_answer(rt: &HostRuntime, answer: &[u8]) -> Status {
             let _ = eprintln!(rt; "relayd: {}", AdminFault::Output);
             Status::DeviceFault
         }
+    }
+}
+
+/// Whether a relay answers that its files were not read: they may never be.
+fn are_unread(answer: &[u8]) -> bool {
+    match reload_answer_in(answer) {
+        Some(ReloadAnswer::Refused { text, .. }) => text.starts_with(UNREAD),
+        _ => false,
+    }
+}
+
+/// Writes the notes of the files that a relay reads at a reload, if it names them and there is memory.
+fn write_notes(rt: &HostRuntime, alloc: Global, relay: RelayAt<'_>) {
+    if let Ok(Some(notes)) = notes_of_relay(rt, alloc, relay) {
+        let _ = write(rt, Ok(notes));
     }
 }
 
