@@ -1,7 +1,7 @@
 //! What a relay answers to a command.
 
 ghost use Rattle.std.specs.Prelude.{◌≡◌, true, OnOk};
-ghost use Rattle.admin_client.specs.AdminAnswer.{IsAnswerTo, is_stopping};
+ghost use Rattle.admin_client.specs.AdminAnswer.{IsAnswerTo, is_stopping, is_whole};
 
 use crate::admin_command::{AdminCommand, STOPPING, UNKNOWN_COMMAND};
 use crate::admin_fault::AdminFault;
@@ -17,6 +17,7 @@ const DESTINATION: &[u8] = b"destination ";
 /// a configuration file, with others, to `files`.
 pub(crate) fn check_answer(command: AdminCommand, answer: &[u8]) -> Result<(), AdminFault>
     ensures ok { OnOk result (IsAnswerTo command answer.now) }
+    ensures whole { OnOk result (is_whole answer.now ≡ true) }
 {
     if answer.is_empty() {
         return Err(AdminFault::NoAnswer);
@@ -38,6 +39,7 @@ pub(crate) fn check_answer(command: AdminCommand, answer: &[u8]) -> Result<(), A
 /// Refuses what is not the answer to `stop`.
 fn check_stopping(answer: &[u8]) -> Result<(), AdminFault>
     ensures ok { OnOk result (is_stopping answer.now ≡ true) }
+    ensures whole { OnOk result (is_whole answer.now ≡ true) }
 {
     if answer == STOPPING {
         Ok(())
@@ -51,6 +53,7 @@ fn check_stopping(answer: &[u8]) -> Result<(), AdminFault>
 /// Refuses what is not the answer to `reload`, and one whose last line has no end.
 fn check_reload(answer: &[u8]) -> Result<(), AdminFault>
     ensures ok { OnOk result (IsAnswerTo AdminCommand.Reload answer.now) }
+    ensures whole { OnOk result (is_whole answer.now ≡ true) }
 {
     match reload_answer_in(answer) {
         Some(_) if answer.ends_with(b"\n") => Ok(()),
@@ -63,6 +66,7 @@ fn check_reload(answer: &[u8]) -> Result<(), AdminFault>
 /// Refuses what names no configuration file, and an answer whose last line has no end.
 fn check_files(answer: &[u8]) -> Result<(), AdminFault>
     ensures ok { OnOk result (IsAnswerTo AdminCommand.Files answer.now) }
+    ensures whole { OnOk result (is_whole answer.now ≡ true) }
 {
     match reload_files_in(answer) {
         Some(_) if answer.ends_with(b"\n") => Ok(()),
@@ -72,7 +76,9 @@ fn check_files(answer: &[u8]) -> Result<(), AdminFault>
 }
 
 /// Refuses what has a line that is not of a destination, and one without its end.
-fn check_report(answer: &[u8]) -> Result<(), AdminFault> {
+fn check_report(answer: &[u8]) -> Result<(), AdminFault>
+    ensures whole { OnOk result (is_whole answer.now ≡ true) }
+{
     for line in answer.split_inclusive(is_newline) {
         if !line.starts_with(DESTINATION) && !DESTINATION.starts_with(line) {
             return Err(AdminFault::NoRelay);

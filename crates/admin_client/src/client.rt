@@ -1,5 +1,8 @@
 //! Commands for a running relay.
 
+ghost use Rattle.std.specs.Prelude.{◌≡◌, ◌⊎◌, true, IfOk, IfErr};
+ghost use Rattle.admin_client.specs.AdminAnswer.{IsAnswerTo, is_whole};
+
 use crate::admin_command::AdminCommand;
 use crate::admin_fault::AdminFault;
 use crate::admin_key::request_of;
@@ -42,7 +45,9 @@ pub fn ask<R: Net + Clock, W: Write>(
     relay: RelayAt<'_>,
     command: AdminCommand,
     output: &mut W,
-) -> Result<(), AdminFault> {
+) -> Result<(), AdminFault>
+    ensures refused { IfErr result (λ fault. (fault ≡ AdminFault.Output) ⊎ (output.new ≡ output.old)) }
+{
     let answer = answer_to(rt, alloc, relay, command)?;
     let written = write_answer(answer.as_slice(), output);
     drop(answer);
@@ -59,7 +64,10 @@ pub fn answer_to<R: Net + Clock>(
     alloc: Global,
     relay: RelayAt<'_>,
     command: AdminCommand,
-) -> Result<Vec<u8>, AdminFault> {
+) -> Result<Vec<u8>, AdminFault>
+    ensures ok { IfOk result (λ answer. IsAnswerTo command answer.items) }
+    ensures whole { IfOk result (λ answer. is_whole answer.items ≡ true) }
+{
     match answer_once(rt, alloc, relay, command) {
         Err(AdminFault::UnknownCommand) if relay.key.is_some() => {
             answer_once(rt, alloc, relay.without_key(), command)
@@ -74,7 +82,10 @@ fn answer_once<R: Net + Clock>(
     alloc: Global,
     relay: RelayAt<'_>,
     command: AdminCommand,
-) -> Result<Vec<u8>, AdminFault> {
+) -> Result<Vec<u8>, AdminFault>
+    ensures ok { IfOk result (λ answer. IsAnswerTo command answer.items) }
+    ensures whole { IfOk result (λ answer. is_whole answer.items ≡ true) }
+{
     let request = request_of(alloc, relay.key, command)?;
     let asked = match connect(rt, relay.port) {
         Ok(mut stream) => {
@@ -161,7 +172,9 @@ fn write_and_wait<S: Read + OpenStream, W: Write>(
 }
 
 /// Writes an answer to the output.
-fn write_answer<W: Write>(answer: &[u8], output: &mut W) -> Result<(), AdminFault> {
+fn write_answer<W: Write>(answer: &[u8], output: &mut W) -> Result<(), AdminFault>
+    ensures refused { IfErr result (λ fault. fault ≡ AdminFault.Output) }
+{
     if output.write_all(answer).is_err() || output.flush().is_err() {
         return Err(AdminFault::Output);
     }

@@ -158,7 +158,9 @@ pub struct LoggedReceiver {
 
 impl LoggedReceiver {
     /// Nothing was reported: it receives.
-    pub fn new() -> LoggedReceiver {
+    pub fn new() -> LoggedReceiver
+        ensures { result.state ≡ ReceiverState.Open }
+    {
         LoggedReceiver {
             state: ReceiverState::Open,
         }

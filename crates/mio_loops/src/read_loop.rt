@@ -263,6 +263,7 @@ impl<S: Read + Drop> ReadLoop<S> {
         ensures left { get self.new.sources token.0 ≡ None }
         ensures others { (other : ℕ) → other ≢ token.0
             → get self.new.sources other ≡ get self.old.sources other }
+        ensures listed { (any : ℕ) → is_listed self.new any ≡ is_listed self.old any }
         ensures rest { (self.new.first ≡ self.old.first) × (self.new.readers ≡ self.old.readers)
             × (self.new.log ≡ self.old.log) }
     {
