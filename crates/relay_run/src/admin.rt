@@ -13,9 +13,7 @@ use crate::reload_source::{READING_TIMEOUT_MS, RefusedReload, ReloadSource};
 use crate::spool_folder::SpoolFolder;
 use crate::start::Process;
 use admin_port::{AdminListener, Answers};
-use admin_report::report;
-use conf_text::Dest;
-use dest_queue::Counts;
+use admin_report::{FileCounts, ReportLine, report_with_files};
 use finished_run::Recorder;
 use locked_queues::{Queues, Set};
 use mio_loops::{SystemTimes, TimeSource};
@@ -24,7 +22,7 @@ use relay_base::{DestId, NoMemory, add, put};
 use relay_files::RunConfiguration;
 use relay_watchers::{LogEnd, StatusServer};
 use run_state::{DestSources, EndState};
-use spool::SpoolDisk;
+use spool::{SpoolDisk, Waiting, clock_seconds};
 use std::alloc::Global;
 use std::net::Net;
 use std::rt::Clock;
@@ -59,22 +57,39 @@ impl<'x, B: Set, F> ReportSource<'x, B, F> {
         }
     }
 
-    /// The counts of each queue, one after the other: not at one moment.
-    fn counts<R: Wait>(&self, rt: &R, alloc: Global) -> Result<Vec<(Dest, Counts)>, NoMemory> {
+    /// The line of each destination, one after the other: not of one moment.
+    fn lines<R: Wait + Clock>(&self, rt: &R, alloc: Global) -> Result<Vec<ReportLine>, NoMemory> {
+        let clock = clock_seconds(rt);
         let mut lines = Vec::new(alloc);
         for place in 0..self.noted.dests.len() {
             let counts = self.queues.counts(rt, DestId(place));
-            let all = self.noted.counts_at(place, counts);
-            add(&mut lines, (self.noted.dests[place].clone()?, all))?;
+            let line = ReportLine {
+                dest: self.noted.dests[place].clone()?,
+                counts: self.noted.counts_at(place, counts),
+                file: file_counts(self.noted.waiting_at(place), clock),
+            };
+            add(&mut lines, line)?;
         }
         Ok(lines)
     }
 }
 
-impl<'x, B: Set, F: ReloadSource, R: Wait> Answers<R> for ReportSource<'x, B, F> {
+/// What a report says of the file of a destination at this second since 1970: nothing if nothing waits.
+fn file_counts(waiting: Waiting, clock: u64) -> Option<FileCounts> {
+    if waiting.bytes == 0 {
+        return None;
+    }
+    Some(FileCounts {
+        datapoints: waiting.datapoints,
+        bytes: waiting.bytes,
+        age: waiting.age(clock),
+    })
+}
+
+impl<'x, B: Set, F: ReloadSource, R: Wait + Clock> Answers<R> for ReportSource<'x, B, F> {
     fn report(&self, rt: &R, alloc: Global) -> Result<Vec<u8>, NoMemory> {
         let mut text = Vec::new(alloc);
-        report(alloc, self.counts(rt, alloc)?.as_slice(), &mut text)?;
+        report_with_files(alloc, self.lines(rt, alloc)?.as_slice(), &mut text)?;
         Ok(text)
     }
 

@@ -4,7 +4,7 @@ use crate::left_dest::LeftDest;
 use handover::Rest;
 use relay_base::{NoMemory, add};
 use senders::KeptSocket;
-use spool::DestSpool;
+use spool::{DestSpool, SpoolNotes};
 use std::alloc::Global;
 use std::mem;
 use std::sync::Mutex;
@@ -74,6 +74,15 @@ impl DestSlots {
         if let Some(slot) = self.slots.get(place) {
             if let Some(mut left) = slot.try_lock() {
                 left.put_files(files, socket);
+            }
+        }
+    }
+
+    /// Notes what waits in the files of each destination, as far as it is counted. No other thread is there.
+    pub(crate) fn note_waiting(&self, notes: &[SpoolNotes]) {
+        for (slot, notes) in self.slots.iter().zip(notes) {
+            if let Some(left) = slot.try_lock() {
+                left.note_waiting(notes);
             }
         }
     }

@@ -6,7 +6,7 @@ use handover::Rest;
 use relay_base::DestId;
 use run_state::Signals;
 use senders::{Connect, KeptSocket};
-use spool::DestSpool;
+use spool::{DestSpool, SpoolNotes};
 
 /// What a run that has ended leaves for a destination: what its sender had in hand with what its queue held, the files, and the
 /// connection's socket. The socket goes out with the earlier file, if that is not sent yet, and otherwise with the rest.
@@ -90,6 +90,13 @@ impl LeftDest {
     /// Whether no datapoint is left, and no connection.
     pub(crate) fn is_nothing(&self) -> bool {
         self.counts() == (0, 0) && !self.is_behind_file() && self.socket.is_none()
+    }
+
+    /// Notes what waits in the files, as far as it is counted.
+    pub(crate) fn note_waiting(&self, notes: &SpoolNotes) {
+        if let Some(files) = &self.files {
+            notes.note_waiting(files.waiting());
+        }
     }
 
     /// Whether the earlier file is not sent yet.

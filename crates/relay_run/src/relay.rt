@@ -251,6 +251,7 @@ fn open_relay<B: Set, L: Drop>(
         first,
         status,
     } = ports;
+    slots.note_waiting(state.spool_notes());
     OpenRelay {
         relay: Relay {
             configuration,

@@ -72,13 +72,13 @@ impl<'n, W: Drop> SenderSpool<'n, W> {
     /// From now on these are the files of a destination. The connection that the earlier one went out on goes on, if it is
     /// there.
     pub(crate) fn begin(&mut self, place: usize, files: Option<DestSpool>, sink: Option<W>) {
+        let mut files = files;
         let notes = self.notes.get(place);
-        note_behind(notes, &files);
+        note_behind(notes, &mut files, &mut self.piece);
         let Some(state) = self.dests.get_mut(place) else {
             drop((files, sink));
             return;
         };
-        let mut files = files;
         match sink {
             Some(sink) => state.connection.keep(sink),
             None => reconnect(&mut files, notes),
@@ -105,9 +105,10 @@ fn reconnect(files: &mut Option<DestSpool>, notes: Option<&SpoolNotes>) {
     }
 }
 
-/// Notes whether an earlier file of a destination is to be sent.
-fn note_behind(notes: Option<&SpoolNotes>, spool: &Option<DestSpool>) {
+/// Notes whether an earlier file of a destination is to be sent, and what waits in it.
+fn note_behind(notes: Option<&SpoolNotes>, spool: &mut Option<DestSpool>, piece: &mut [u8]) {
     if let (Some(notes), Some(spool)) = (notes, spool) {
+        spool.note_waiting(piece, notes);
         if spool.is_behind() {
             notes.note_behind();
         }
@@ -352,7 +353,7 @@ impl<W: Write + HalfClose + Drop> SpooledDest<W> {
             }
             StoreEnd::NotYet | StoreEnd::Orderly => {
                 drop(sink);
-                spool.end_part(disk);
+                spool.end_part(disk, notes);
             }
         }
     }
@@ -376,7 +377,7 @@ impl<W: Write + HalfClose + Drop> SpooledDest<W> {
         drop(end);
         if let Some(spool) = &mut self.spool {
             match part_end {
-                PartEnd::Taken => spool.end_part(disk),
+                PartEnd::Taken => spool.end_part(disk, notes),
                 PartEnd::NoEnd => spool.note_no_end(disk, notes),
                 PartEnd::Lost | PartEnd::Open => spool.send_again(notes),
             }
@@ -400,7 +401,7 @@ impl<W: Write + HalfClose + Drop> SpooledDest<W> {
                 None
             }
             Turn::Over(sink) => {
-                spool.end_part(disk);
+                spool.end_part(disk, notes);
                 if !spool.is_behind() {
                     return Some((sink, true));
                 }

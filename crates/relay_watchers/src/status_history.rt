@@ -25,6 +25,8 @@ pub(crate) const LOOK_MS: u64 = 100;
 pub(crate) struct Totals {
     pub(crate) queues: Vec<Counts>,
     pub(crate) dests: Vec<DestStatus>,
+    // How many datapoints of each destination's file connections took in this run.
+    pub(crate) passed: Vec<u64>,
     pub(crate) receivers: Vec<ReceiverCounts>,
 }
 
@@ -95,10 +97,17 @@ impl StatusHistory {
         let is_sample = millis.saturating_sub(self.sampled) >= SAMPLE_SECONDS * 1_000;
         let passed = millis.saturating_sub(self.sampled).max(1);
         let looks = now.queues.as_slice().iter().zip(now.dests.as_slice());
-        for (track, (counts, status)) in self.dests.as_mut_slice().iter_mut().zip(looks) {
+        let looks = looks.zip(now.passed.as_slice());
+        for (track, ((counts, status), passed)) in self
+            .dests
+            .as_mut_slice()
+            .iter_mut()
+            .zip(looks)
+        {
             let look = DestLook {
                 counts: *counts,
                 status: *status,
+                passed: *passed,
                 millis,
             };
             track.look(&look);

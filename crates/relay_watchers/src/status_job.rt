@@ -3,7 +3,7 @@
 ghost use Rattle.std.specs.Prelude.{◌≡◌, ◌<◌, length};
 
 use crate::dest_track::DestTrack;
-use crate::process::{SystemFacts, clock_seconds};
+use crate::process::SystemFacts;
 use crate::receiver_log::WatchedReceiver;
 use crate::status_history::{NO_RATES, SAMPLE_SECONDS, StatusHistory, Totals};
 use conf_text::Dest;
@@ -14,8 +14,10 @@ use md5::DIGEST_LEN;
 use mio_loops::{SystemTimes, TimeSource};
 use relay_base::DestId;
 use run_state::{DestSources, Signals, ThreadWork};
+use spool::{Waiting, clock_seconds};
 use status_page::{
-    ConnectionCounts, DestSnapshot, ReceiverSnapshot, Snapshot, push_json, push_metrics, push_page,
+    ConnectionCounts, DestSnapshot, ReceiverSnapshot, Snapshot, SpoolSnapshot, push_json,
+    push_metrics, push_page,
 };
 use status_server::{Page, StatusListener, StatusTexts};
 use std::alloc::{AllocError, Global};
@@ -58,11 +60,13 @@ impl<'x, B: Set> StatusWatch<'x, B> {
         let mut totals = Totals {
             queues: Vec::new(alloc),
             dests: Vec::new(alloc),
+            passed: Vec::new(alloc),
             receivers: Vec::new(alloc),
         };
         for place in 0..self.noted.dests.len() {
             let counts = self.counts_at(rt, place);
             totals.queues.push(counts)?;
+            totals.passed.push(self.noted.passed_at(place))?;
             if let Some(notes) = self.noted.notes.get(place) {
                 totals.dests.push(notes.status(counts.dropped, true))?;
             }
@@ -98,6 +102,7 @@ impl<'x, B: Set> StatusWatch<'x, B> {
             snapshot.connections.failed_tries = status.failures;
             snapshot.writes = notes.writes();
         }
+        snapshot.spool = spool_of(self.noted.waiting_at(place), times);
         if let Some(track) = history.dest(place) {
             add_track(&mut snapshot, track, times);
         }
@@ -188,6 +193,17 @@ fn unseen_dest(dest: Dest, counts: Counts, size: u64, times: &ViewTimes) -> Dest
         stalled: 0,
         oldest: 0,
         drop_age: None,
+        spool: spool_of(Waiting::nothing(), times),
+    }
+}
+
+/// What waits in the file of a destination, at a moment.
+fn spool_of(waiting: Waiting, times: &ViewTimes) -> SpoolSnapshot {
+    SpoolSnapshot {
+        datapoints: waiting.datapoints,
+        bytes: waiting.bytes,
+        age: waiting.age(times.clock),
+        rate: 0,
     }
 }
 
@@ -199,6 +215,7 @@ fn add_track(snapshot: &mut DestSnapshot, track: &DestTrack, times: &ViewTimes) 
     snapshot.stalled = track.stalled(times.millis);
     snapshot.oldest = track.oldest(&snapshot.counts, times.millis);
     snapshot.drop_age = track.drop_age(times.millis);
+    snapshot.spool.rate = track.spool_rate();
     if track.written_at() > 0 {
         snapshot.written_at = times.second_of(track.written_at());
     }

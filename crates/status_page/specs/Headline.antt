@@ -1,6 +1,6 @@
 -- What the status says first: the worst that is true, and of which destination or receiver: a loss of the one that loses
 -- most, all else of the first.
-use Rattle.std.specs.Prelude.{ℕ, ◌≤◌, ◌<◌, ◌/◌, nat_lt, nat_le, Bool, true, false, not, ◌&&◌, ◌||◌, List, ◌++◌, length, Option, None, Some, codes, decimal, if◌then◌else◌}
+use Rattle.std.specs.Prelude.{ℕ, ◌/◌, nat_lt, nat_le, Bool, true, false, not, ◌&&◌, ◌||◌, List, ◌++◌, length, Option, None, Some, codes, decimal, if◌then◌else◌}
 use Rattle.std.specs.List.{list_all, position, count_by}
 use Rattle.log_lines.specs.declared.receiver_notes.ReceiverState.{ReceiverState}
 use Rattle.log_lines.specs.declared.receiver_notes.ReceiverState.TheVariants as state

@@ -16,6 +16,7 @@ use Rattle.status_page.specs.declared.snapshot.Rates.{Rates}
 use Rattle.status_page.specs.declared.snapshot.ReceiverSnapshot.{ReceiverSnapshot}
 use Rattle.status_page.specs.declared.snapshot.Sample.{Sample}
 use Rattle.status_page.specs.declared.snapshot.Snapshot.{Snapshot}
+use Rattle.status_page.specs.declared.snapshot.SpoolSnapshot.{SpoolSnapshot}
 use Rattle.status_page.specs.Headline.{headline, state_name}
 use Rattle.status_page.specs.Plain.{plain_text}
 
@@ -89,11 +90,19 @@ progress_json d =
     ++ (member (codes "stalled_seconds") d.stalled
     ++ (member (codes "oldest_queued_milliseconds") d.oldest))))
 
+-- what waits in its file, and how fast that goes out
+unfoldable pub spool_json : SpoolSnapshot → List ℕ
+spool_json s =
+    member (codes "spool_datapoints") s.datapoints
+    ++ (member (codes "spool_bytes") s.bytes
+    ++ (member (codes "spool_age_seconds") s.age
+    ++ (member (codes "spool_datapoints_per_second") s.rate)))
+
 -- a destination
 unfoldable pub dest_json : DestSnapshot → List ℕ
 dest_json d =
     dest_name d ++ (dest_numbers d ++ (last_error_json d.last_error
-    ++ (connection_counts_json d.connections ++ (progress_json d ++ codes "}"))))
+    ++ (connection_counts_json d.connections ++ (progress_json d ++ (spool_json d.spool ++ codes "}")))))
 
 unfoldable pub receiver_name : ReceiverSnapshot → List ℕ
 receiver_name r = codes "{\"receiver\":\"" ++ (plain_text (string_bytes r.name) ++ codes "\"")

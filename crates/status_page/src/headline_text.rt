@@ -9,6 +9,7 @@ use crate::headline::{Headline, is_away, is_losing, is_stuck};
 use crate::numbers::{push_count, push_duration, push_millis};
 use crate::plain::plain;
 use crate::snapshot::{DestSnapshot, ReceiverSnapshot, Snapshot};
+use crate::spool_text::waiting_of;
 use log_lines::ReceiverState;
 use std::alloc::AllocError;
 use std::fmt::Write as _;
@@ -229,6 +230,11 @@ fn push_well(text: &mut String, now: &Snapshot) -> Result<(), AllocError> {
     text.push_str(" a second in, ")?;
     push_count(text, now.rates.written)?;
     text.push_str(" out, ")?;
+    let (files, waiting) = waiting_of(now.dests.as_slice());
+    if files > 0 {
+        push_count(text, waiting)?;
+        return text.push_str(" wait in files");
+    }
     let oldest = oldest_of(now.dests.as_slice());
     if oldest == 0 {
         return text.push_str("nothing queued");

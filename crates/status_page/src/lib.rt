@@ -22,10 +22,12 @@ mod plot;
 mod receiver_metrics;
 mod receiver_table;
 mod snapshot;
+mod spool_text;
 
 pub use json::push_json;
 pub use metrics::push_metrics;
 pub use page::push_page;
 pub use snapshot::{
     ConnectionCounts, DestSnapshot, ProcessCounts, Rates, ReceiverSnapshot, Sample, Snapshot,
+    SpoolSnapshot,
 };

@@ -91,6 +91,21 @@ pub struct DestSnapshot {
     pub oldest: u64,
     /// How many seconds ago its queue last dropped a datapoint, if it ever did.
     pub drop_age: Option<u64>,
+    /// What waits in its file.
+    pub spool: SpoolSnapshot,
+}
+
+/// What waits in the file of a destination.
+#[derive(Clone, Copy)]
+pub struct SpoolSnapshot {
+    /// The datapoints, as far as the file can be read.
+    pub datapoints: u64,
+    /// Their bytes.
+    pub bytes: u64,
+    /// How many seconds ago the file was last written; 0 if nothing waits.
+    pub age: u64,
+    /// How many of the datapoints went out in each second of the last sample.
+    pub rate: u64,
 }
 
 /// How often a destination was connected, lost its connection and could not be connected.
