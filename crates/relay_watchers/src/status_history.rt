@@ -98,7 +98,7 @@ impl StatusHistory {
         let passed = millis.saturating_sub(self.sampled).max(1);
         let looks = now.queues.as_slice().iter().zip(now.dests.as_slice());
         let looks = looks.zip(now.passed.as_slice());
-        for (track, ((counts, status), passed)) in self
+        for (track, ((counts, status), of_file)) in self
             .dests
             .as_mut_slice()
             .iter_mut()
@@ -107,7 +107,7 @@ impl StatusHistory {
             let look = DestLook {
                 counts: *counts,
                 status: *status,
-                passed: *passed,
+                passed: *of_file,
                 millis,
             };
             track.look(&look);
