@@ -3,7 +3,6 @@
 ghost use Rattle.std.specs.Prelude.{◌≡◌, ◌<◌, ◌≤◌, true, length, Some, IfErr};
 ghost use Rattle.relay_run.specs.Running.{fault_of_plan, is_start_fault};
 
-use crate::end_orders::EndOrders;
 use crate::listeners::BoundPort;
 use crate::ready_datagrams::ReadyDatagrams;
 use crate::runtime::SystemTables;
@@ -23,7 +22,7 @@ use relay_base::NoMemory;
 use relay_files::{ListenRole, RelayFault, RunConfiguration};
 use relay_watchers::ReceiverLog;
 use router::Plan;
-use run_state::{BeginNote, Signals, ThreadWork};
+use run_state::{BeginNote, EndOrders, Signals, ThreadWork};
 use senders::WakeGate;
 use std::alloc::{AllocError, Global};
 use std::net::Net;

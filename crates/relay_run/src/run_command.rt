@@ -31,7 +31,6 @@ use crate::reload_source::ReloadSource;
 use crate::running::run_until_ended;
 use crate::runtime::RelayRuntime;
 use crate::spool_folder::{SpoolFolder, put_failures};
-use crate::spool_left::spool_slots;
 use crate::start::{Process, Start};
 use crate::thread_records::{Records, RunLeft};
 use finished_run::Recorder;
@@ -47,6 +46,7 @@ use std::marker::Brand;
 use std::mem;
 use std::rt::Clock;
 use std::time::Instant;
+use store_lines::spool_slots;
 
 /// Runs a relay until its admin port takes `stop`, and settles.
 ///
