@@ -11,19 +11,14 @@
 
 mod admin;
 mod closing;
-mod datagram_room;
-mod descriptors;
 mod end_waits;
 mod ended_run;
 mod ending;
 mod first_work;
 mod inherited;
-mod listeners;
 mod next_start;
-mod options;
 mod parting_setup;
 mod prepared_run;
-mod ready_datagrams;
 mod receiver_job;
 mod receiver_setup;
 mod relay;
@@ -32,12 +27,9 @@ mod reload_source;
 mod run_command;
 mod running;
 mod runtime;
-mod said_refusals;
 mod sender_job;
 mod sender_setup;
 mod shape;
-mod shared_listener;
-mod shared_stream;
 mod shortage;
 mod spool_folder;
 mod start;
@@ -46,9 +38,10 @@ mod thread_jobs;
 mod thread_records;
 mod threads;
 
-pub use descriptors::{descriptors_needed, free_descriptors};
-pub use options::{RunOptions, StatusOptions};
+pub use relay_ports::{
+    RunOptions, StatusOptions, SystemTables, descriptors_needed, free_descriptors,
+};
 pub use reload_source::{RefusedReload, ReloadSource};
 pub use run_command::run;
-pub use runtime::{RelayRuntime, SystemTables};
+pub use runtime::RelayRuntime;
 pub use spool_folder::{SpoolFault, SpoolFolder};

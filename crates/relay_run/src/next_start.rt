@@ -2,7 +2,6 @@
 
 use crate::ended_run::EndedRun;
 use crate::inherited::Inherited;
-use crate::listeners::{FirstPorts, Ports};
 use crate::prepared_run::{KeptPlaces, NextPlan};
 use crate::shape::shape_of;
 use crate::start::{Process, Start};
@@ -10,6 +9,7 @@ use conf_text::Dest;
 use dest_queue::EarlierCounts;
 use log_lines::DestNotes;
 use relay_base::{DestId, NoMemory, add};
+use relay_ports::{FirstPorts, Ports};
 use relay_watchers::{ReceiverLog, StatusServer};
 use run_state::{RestNotes, RunNotes};
 use std::alloc::Global;

@@ -1,7 +1,7 @@
 //! The job of the thread that sends to destinations that are gone.
 
 ghost use Rattle.std.specs.Prelude.{◌≡◌, true, IfErr};
-ghost use Rattle.relay_run.specs.Running.{is_start_fault};
+ghost use Rattle.relay_ports.specs.StartFault.{is_start_fault};
 
 use crate::closing::output_fault;
 use crate::relay_jobs::JobMaker;

@@ -1,10 +1,9 @@
 //! What a run is made of.
 
 ghost use Rattle.std.specs.Prelude.{◌≡◌, ◌≤◌, true, length, IfErr};
-ghost use Rattle.relay_run.specs.Running.{is_start_fault};
+ghost use Rattle.relay_ports.specs.StartFault.{is_start_fault};
 
 use crate::inherited::Inherited;
-use crate::listeners::{BoundPort, FirstPorts, Ports};
 use crate::sender_setup::{alarms_of, watches_of};
 use crate::shape::Shape;
 use crate::start::{Process, Start};
@@ -16,6 +15,7 @@ use mio_loops::Readiness;
 use receivers::HandedStreams;
 use relay_base::{LARGEST_MESSAGE, LARGEST_QUEUE_SIZE, MOST_DESTINATIONS};
 use relay_files::{RelayFault, RunConfiguration};
+use relay_ports::{BoundPort, FirstPorts, Ports};
 use relay_watchers::{LateNews, ReceiverLog, StatusServer};
 use run_state::{DestSources, EndOrders, RunState};
 use senders::WakeGate;
@@ -213,7 +213,7 @@ fn open_relay<B: Set, L: Drop>(
     opened: Opened<B>,
     shared: SharedParts,
     inherited: Inherited,
-    ports: Ports,
+    ports: Ports<StatusServer>,
     log: Option<L>,
     process: &Process<'_>,
     is_first: bool,

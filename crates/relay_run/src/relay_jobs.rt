@@ -1,7 +1,7 @@
 //! The jobs of the threads of a relay, made of the parts that each is given.
 
 ghost use Rattle.std.specs.Prelude.{◌≡◌, true, length, IfErr};
-ghost use Rattle.relay_run.specs.Running.{is_start_fault};
+ghost use Rattle.relay_ports.specs.StartFault.{is_start_fault};
 
 use crate::parting_setup::parting_job;
 use crate::receiver_job::ReceiverJob;

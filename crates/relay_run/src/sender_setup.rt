@@ -1,7 +1,7 @@
 //! The jobs of senders' threads, made of seats, what each waits with, and its places.
 
 ghost use Rattle.std.specs.Prelude.{◌≡◌, ◌≤◌, ◌<◌, true, length, IfErr};
-ghost use Rattle.relay_run.specs.Running.{is_start_fault};
+ghost use Rattle.relay_ports.specs.StartFault.{is_start_fault};
 
 use crate::closing::output_fault;
 use crate::relay_jobs::JobMaker;
