@@ -2,7 +2,6 @@
 
 ghost use Rattle.std.specs.Prelude.{◌≤◌};
 
-use crate::listeners::{BoundPort, FirstPorts};
 use crate::relay::Relay;
 use crate::reload_source::RefusedReload;
 use crate::shortage::{Needs, Shortage, try_needs};
@@ -15,6 +14,7 @@ use locked_queues::{BlankTotals, EndRoom, MOST_RECEIVERS, Set};
 use queue_records::READERS_EACH;
 use relay_base::{DestId, MOST_DESTINATIONS, NoMemory, add};
 use relay_files::{RelayFault, RunConfiguration};
+use relay_ports::{BoundPort, FirstPorts};
 use spool::{OpenFault, SpoolDisk, SpoolFiles};
 use std::alloc::Global;
 use std::net::Net;

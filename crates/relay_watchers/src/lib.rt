@@ -8,7 +8,6 @@
 
 mod dest_rest;
 mod dest_track;
-mod gone_dest;
 mod late_news;
 mod log_buffer;
 mod log_job;
@@ -20,7 +19,6 @@ mod status_history;
 mod status_job;
 mod watchers;
 
-pub use gone_dest::{GoneDest, GoneSources};
 pub use late_news::LateNews;
 pub use log_buffer::LogBuffer;
 pub use log_job::{LogEnd, LogJob};

@@ -2,7 +2,6 @@
 
 ghost use Rattle.std.specs.Prelude.{◌≡◌, length};
 
-use crate::gone_dest::GoneSources;
 use crate::late_news::LateNews;
 use crate::log_job::{LogJob, log_to};
 use crate::receiver_log::{ReceiverLog, watched_of};
@@ -10,7 +9,7 @@ use crate::status_job::{StatusJob, StatusServer, StatusWatch, status_at};
 use locked_queues::{Queues, Set};
 use md5::DIGEST_LEN;
 use relay_base::NoMemory;
-use run_state::DestSources;
+use run_state::{DestSources, GoneSources};
 use std::alloc::Global;
 use std::io::Write;
 use std::time::Instant;

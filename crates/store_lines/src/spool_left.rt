@@ -150,7 +150,7 @@ fn write_rest<'n, D: SpoolDisk + Drop>(
 }
 
 /// Writes to files what is left in slots, as far as files keep it.
-pub(crate) fn spool_slots<D: SpoolDisk + Copy + Drop>(
+pub fn spool_slots<D: SpoolDisk + Copy + Drop>(
     disk: &D,
     alloc: Global,
     slots: &DestSlots,

@@ -1,5 +1,5 @@
-use Rattle.relay_run.proofs.LeftLemmas.{was-there}
-use Rattle.relay_run.proofs.rest_connector.send_rest.Goals as goal
+use Rattle.store_lines.proofs.LeftLemmas.{was-there}
+use Rattle.store_lines.proofs.rest_connector.send_rest.Goals as goal
 
 -- the connection that is given out took the whole rest
 pub returns-in-Over-clause-whole : goal.returns-in-Over-clause-whole

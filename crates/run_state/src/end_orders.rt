@@ -6,7 +6,7 @@ use std::sync::atomic::{AtomicBool, AtomicU64, Ordering};
 /// What keeps short the time for which ports are shut: the receiver of datagrams stops after those of connections, since what
 /// comes to its shut port is lost; and the files of some destinations are written before any receiver stops.
 #[derive(Drop)]
-pub(crate) struct EndOrders {
+pub struct EndOrders {
     datagrams: AtomicBool,
     // The destinations whose connections are files from now on, a bit each.
     spooled: AtomicU64,
@@ -14,7 +14,7 @@ pub(crate) struct EndOrders {
 
 impl EndOrders {
     /// Nothing was told.
-    pub(crate) fn new() -> EndOrders {
+    pub fn new() -> EndOrders {
         EndOrders {
             datagrams: AtomicBool::new(false),
             spooled: AtomicU64::new(0),
@@ -22,22 +22,22 @@ impl EndOrders {
     }
 
     /// The stop flag of the receiver of datagrams.
-    pub(crate) fn datagrams(&self) -> &AtomicBool {
+    pub fn datagrams(&self) -> &AtomicBool {
         &self.datagrams
     }
 
     /// Tells the receiver of datagrams to stop.
-    pub(crate) fn stop_datagrams(&self) {
+    pub fn stop_datagrams(&self) {
         self.datagrams.store(true, Ordering::SeqCst);
     }
 
     /// Tells the senders to write to files what they have not sent to these destinations, a bit each.
-    pub(crate) fn spool_to(&self, dests: u64) {
+    pub fn spool_to(&self, dests: u64) {
         let _before = self.spooled.fetch_or(dests, Ordering::SeqCst);
     }
 
     /// Whether the sender of a destination was told so.
-    pub(crate) fn is_spooled(&self, dest: DestId) -> bool {
+    pub fn is_spooled(&self, dest: DestId) -> bool {
         let spooled = self.spooled.load(Ordering::SeqCst);
         spooled != 0 && spooled & bit_of(dest) != 0
     }

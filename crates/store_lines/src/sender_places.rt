@@ -13,11 +13,15 @@ use std::net::Net;
 
 /// The destinations of one of several senders, of which one of `n` has each n-th, and the slots that have what is left for them.
 #[derive(Clone, Copy)]
-pub(crate) struct Share<'n> {
-    pub(crate) slots: &'n DestSlots,
-    pub(crate) dests: usize,
-    pub(crate) sender: usize,
-    pub(crate) senders: usize,
+pub struct Share<'n> {
+    /// The slots.
+    pub slots: &'n DestSlots,
+    /// How many destinations all senders have.
+    pub dests: usize,
+    /// The number of this sender.
+    pub sender: usize,
+    /// How many senders there are.
+    pub senders: usize,
 }
 
 impl Share<'_> {
@@ -29,7 +33,7 @@ impl Share<'_> {
 
 /// The places of a sender, by destination: for files, and for what ended runs left.
 #[derive(Drop)]
-pub(crate) struct SenderPlaces<'n, D: SpoolDisk + Drop> {
+pub struct SenderPlaces<'n, D: SpoolDisk + Drop> {
     pub(crate) spool: SenderSpool<'n, StoreStream<'n>>,
     pub(crate) rests: SenderRests<'n, SpoolSink<'n, StoreStream<'n>, D>>,
 }
@@ -37,7 +41,7 @@ pub(crate) struct SenderPlaces<'n, D: SpoolDisk + Drop> {
 impl<'n, D: SpoolDisk + Drop> SenderPlaces<'n, D> {
     /// Places for so many files, which may grow to this limit, and for so many rests, and where it is noted what becomes of
     /// each; 0 if there are none. Refuses if out of memory.
-    pub(crate) fn new(
+    pub fn new(
         alloc: Global,
         files: usize,
         limit: Option<u64>,

@@ -8,14 +8,14 @@ const REFUSALS_PAUSE_MS: u64 = 60_000;
 
 /// What the log has of these connections, and the milliseconds of its last line.
 #[derive(Clone, Copy)]
-pub(crate) struct SaidRefusals {
+pub struct SaidRefusals {
     refusals: Refusals,
     since: Option<u64>,
 }
 
 impl SaidRefusals {
     /// The log has nothing.
-    pub(crate) fn none() -> SaidRefusals {
+    pub fn none() -> SaidRefusals {
         SaidRefusals {
             refusals: Refusals {
                 unknown: 0,
@@ -26,12 +26,7 @@ impl SaidRefusals {
     }
 
     /// A line on what is new, once a minute at most. Without memory for the line it is said later.
-    pub(crate) fn line(
-        &mut self,
-        alloc: Global,
-        refusals: Refusals,
-        millis: u64,
-    ) -> Option<String> {
+    pub fn line(&mut self, alloc: Global, refusals: Refusals, millis: u64) -> Option<String> {
         let is_early = match self.since {
             Some(since) => millis.saturating_sub(since) < REFUSALS_PAUSE_MS,
             None => false,
@@ -45,7 +40,7 @@ impl SaidRefusals {
     }
 
     /// A line on what is new, however soon. Without memory for the line there is none.
-    pub(crate) fn last_line(&mut self, alloc: Global, refusals: Refusals) -> Option<String> {
+    pub fn last_line(&mut self, alloc: Global, refusals: Refusals) -> Option<String> {
         if refusals == self.refusals {
             return None;
         }

@@ -14,9 +14,11 @@ const HOLD_MS: u64 = 2;
 
 /// The number of connections that each of the receivers holds that share a listener, and which of them this one is.
 #[derive(Clone, Copy)]
-pub(crate) struct Share<'s> {
-    pub(crate) held: &'s [AtomicU64],
-    pub(crate) own: usize,
+pub struct Share<'s> {
+    /// The numbers of all.
+    pub held: &'s [AtomicU64],
+    /// The place of this one.
+    pub own: usize,
 }
 
 impl<'s> Share<'s> {

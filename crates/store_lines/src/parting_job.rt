@@ -1,6 +1,5 @@
 //! The work of the thread that sends to destinations that are gone.
 
-use crate::end_orders::EndOrders;
 use crate::gone_dests::GoneDests;
 use crate::rest_connector::RestConnector;
 use crate::sender_places::{SenderPlaces, Share};
@@ -8,7 +7,7 @@ use crate::spool_connector::SpoolConnector;
 use crate::spool_left::{SpooledLeft, spool_left};
 use mio_loops::{SystemTimes, TimeSource};
 use relay_base::DestId;
-use run_state::{GoneEnd, Signals, ThreadWork};
+use run_state::{EndOrders, GoneEnd, Signals, ThreadWork};
 use senders::{Connect, StoreConnector};
 use spool::SpoolDisk;
 use std::alloc::{AllocError, Global};
@@ -26,14 +25,19 @@ const LONGEST_END_MS: u64 = 1_000;
 /// A sender to destinations that are gone, as long as `--drain` allows: their connector, its places, and since when the
 /// milliseconds of a run count.
 #[derive(Drop)]
-pub(crate) struct PartingJob<'x, R: Wait + SpoolDisk + Drop> {
-    pub(crate) gone: &'x GoneDests,
-    // Of the run's own destinations: none of these.
-    pub(crate) orders: &'x EndOrders,
-    pub(crate) connector: StoreConnector<'x, R>,
-    pub(crate) places: SenderPlaces<'x, R>,
-    pub(crate) limit: Option<u64>,
-    pub(crate) began: Option<Instant>,
+pub struct PartingJob<'x, R: Wait + SpoolDisk + Drop> {
+    /// The destinations.
+    pub gone: &'x GoneDests,
+    /// Of the run's own destinations: none of these.
+    pub orders: &'x EndOrders,
+    /// What connects to them.
+    pub connector: StoreConnector<'x, R>,
+    /// The places.
+    pub places: SenderPlaces<'x, R>,
+    /// The system's limit for the size of a file, in bytes, if there is one.
+    pub limit: Option<u64>,
+    /// Since when the milliseconds of a run count.
+    pub began: Option<Instant>,
 }
 
 impl<'x, R: Wait + Clock + Net + SpoolDisk + Copy + Drop> ThreadWork<R, ()> for PartingJob<'x, R> {

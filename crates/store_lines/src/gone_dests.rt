@@ -6,39 +6,44 @@ use conf_text::Dest;
 use config_changes::place_of;
 use log_lines::DestNotes;
 use relay_base::{MOST_DESTINATIONS, NoMemory};
-use relay_watchers::GoneDest;
-use run_state::{GoneDrain, GoneEnd, GoneNotes, RestNotes};
+use run_state::{GoneDest, GoneDrain, GoneEnd, GoneNotes, GoneSources, RestNotes};
 use spool::SpoolNotes;
 use std::alloc::Global;
 use std::sync::atomic::{AtomicBool, Ordering};
 
-/// The destinations that the runs before had and this one has not, as far as something is left for them: what that is, until
-/// which milliseconds it is sent, what is noted of their connections and files, and what becomes of it. All lists are in the
+/// The destinations that the runs before had and this one has not, as far as something is left for them. All lists are in the
 /// same order.
 #[derive(Drop)]
-pub(crate) struct GoneDests {
-    pub(crate) dests: Vec<Dest>,
-    pub(crate) shown: Vec<GoneDest>,
-    pub(crate) until: Vec<u64>,
-    pub(crate) links: Vec<DestNotes>,
-    pub(crate) files: Vec<SpoolNotes>,
-    pub(crate) rests: Vec<RestNotes>,
-    pub(crate) slots: DestSlots,
+pub struct GoneDests {
+    /// The destinations, as they are sent to.
+    pub dests: Vec<Dest>,
+    // As the log shows them.
+    shown: Vec<GoneDest>,
+    /// Until which milliseconds each is sent to.
+    pub until: Vec<u64>,
+    /// What is noted of their connections.
+    pub links: Vec<DestNotes>,
+    /// What is noted of their files.
+    pub files: Vec<SpoolNotes>,
+    /// What is noted of their rests.
+    pub rests: Vec<RestNotes>,
+    /// What is left for each.
+    pub slots: DestSlots,
     // Whether their sender has ended.
     is_sender_over: AtomicBool,
 }
 
 /// A destination that is gone, as it is sent to and as the log shows it, and until which milliseconds it is sent to.
 #[derive(Drop)]
-pub(crate) struct PartingDest {
-    pub(crate) dest: Dest,
-    pub(crate) shown: Dest,
-    pub(crate) until: u64,
+pub struct PartingDest {
+    dest: Dest,
+    shown: Dest,
+    until: u64,
 }
 
 impl PartingDest {
     /// This destination, until these milliseconds. Refuses if out of memory.
-    pub(crate) fn new(dest: &Dest, until: u64) -> Result<PartingDest, NoMemory> {
+    pub fn new(dest: &Dest, until: u64) -> Result<PartingDest, NoMemory> {
         Ok(PartingDest {
             dest: dest.clone()?,
             shown: dest.clone()?,
@@ -49,7 +54,7 @@ impl PartingDest {
 
 impl GoneDests {
     /// Room for so many, of which there is none yet. Refuses if out of memory.
-    pub(crate) fn with_room(alloc: Global, count: usize) -> Result<GoneDests, NoMemory> {
+    pub fn with_room(alloc: Global, count: usize) -> Result<GoneDests, NoMemory> {
         Ok(GoneDests {
             dests: Vec::with_capacity(alloc, count)?,
             shown: Vec::with_capacity(alloc, count)?,
@@ -62,18 +67,26 @@ impl GoneDests {
         })
     }
 
+    /// What the log shows of them.
+    pub fn sources(&self) -> GoneSources<'_> {
+        GoneSources {
+            dests: self.shown.as_slice(),
+            files: self.files.as_slice(),
+        }
+    }
+
     /// Their sender has ended.
     pub(crate) fn note_sender_over(&self) {
         self.is_sender_over.store(true, Ordering::SeqCst);
     }
 
     /// Whether their sender has ended.
-    pub(crate) fn is_sender_over(&self) -> bool {
+    pub fn is_sender_over(&self) -> bool {
         self.is_sender_over.load(Ordering::SeqCst)
     }
 
     /// Adds one, for which there is room, with what is left for it.
-    pub(crate) fn add(&mut self, parting: PartingDest, left: LeftDest) {
+    pub fn add(&mut self, parting: PartingDest, left: LeftDest) {
         let PartingDest { dest, shown, until } = parting;
         let (queued, in_hand) = left.counts();
         let rest = RestNotes::new(0);
@@ -96,7 +109,7 @@ impl GoneDests {
     }
 
     /// Whether there is none.
-    pub(crate) fn are_none(&self) -> bool {
+    pub fn are_none(&self) -> bool {
         self.dests.is_empty()
     }
 
@@ -123,7 +136,7 @@ impl GoneDests {
     }
 
     /// Looks at each at these milliseconds. Returns whether a stop waits for one.
-    pub(crate) fn are_waited_for(&self, drain: &mut GoneDrain, millis: u64) -> bool {
+    pub fn are_waited_for(&self, drain: &mut GoneDrain, millis: u64) -> bool {
         let mut are = false;
         for (place, until) in self.until.iter().enumerate() {
             if place < MOST_DESTINATIONS && !self.is_over(place, millis) {
@@ -145,7 +158,7 @@ impl GoneDests {
     }
 
     /// Takes what is left for the destination of a place; nothing if its end is known, since its file has that.
-    pub(crate) fn take_unless_over(&self, place: usize) -> LeftDest {
+    pub fn take_unless_over(&self, place: usize) -> LeftDest {
         if self.has_ended(place) {
             LeftDest::none()
         } else {
@@ -154,7 +167,7 @@ impl GoneDests {
     }
 
     /// How many of them are not in this list, and their end is not known.
-    pub(crate) fn sent_beside(&self, dests: &[Dest]) -> usize {
+    pub fn sent_beside(&self, dests: &[Dest]) -> usize {
         let mut count: usize = 0;
         for (place, dest) in self.dests.iter().enumerate() {
             if !self.has_ended(place) && place_of(dest, dests).is_none() {

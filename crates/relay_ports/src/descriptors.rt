@@ -1,7 +1,7 @@
 //! The file descriptors that a relay needs, and those that its receivers may take for connections.
 
 ghost use Rattle.std.specs.Prelude.{◌≡◌, true, IfErr};
-ghost use Rattle.relay_run.specs.Running.{is_start_fault};
+ghost use Rattle.relay_ports.specs.StartFault.{is_start_fault};
 
 use crate::listeners::BoundPort;
 use crate::options::RunOptions;

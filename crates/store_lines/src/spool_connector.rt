@@ -4,7 +4,6 @@ ghost use Rattle.std.specs.Prelude.{◌≡◌, IfErr};
 
 use crate::dest_list::copy_list;
 use crate::dest_slots::DestSlots;
-use crate::end_orders::EndOrders;
 use crate::file_end::{FileEnd, PartEnd};
 use crate::left_dest::socket_of;
 use crate::rest_files::RestFiles;
@@ -13,7 +12,7 @@ use crate::spool_left::{SpooledRest, spool_rest};
 use handover::Rest;
 use mio_loops::ReadinessFault;
 use relay_base::{DestId, MOST_DESTINATIONS, NoMemory, add};
-use run_state::Signals;
+use run_state::{EndOrders, Signals};
 use senders::{Connect, HalfClose, KeptSocket, StoreEnd};
 use spool::{DestSpool, FileConnection, FileSink, SpoolDisk, SpoolNotes, Turn};
 use std::alloc::Global;

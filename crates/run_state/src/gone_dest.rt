@@ -1,7 +1,7 @@
 //! A destination that is gone.
 
+use crate::gone_notes::GoneNotes;
 use conf_text::Dest;
-use run_state::GoneNotes;
 use spool::SpoolNotes;
 
 /// A destination that the run before had and this one has not, and what becomes of what was held for it.

@@ -2,7 +2,7 @@
 
 ghost use Rattle.std.specs.Prelude.{None, Some, ◌≡◌, ◌≤◌, max, min};
 
-use locked_queues::MOST_SENDERS;
+use queue_records::MOST_SENDERS;
 use relay_base::MOST_LINE_RECEIVERS;
 use std::net::SocketAddr;
 
@@ -87,21 +87,21 @@ impl RunOptions {
     }
 
     /// Where a status server listens, if any.
-    pub(crate) fn status(self) -> Option<StatusOptions>
+    pub fn status(self) -> Option<StatusOptions>
         ensures { result ≡ self.status }
     {
         self.status
     }
 
     /// The port for commands.
-    pub(crate) fn admin(self) -> u16
+    pub fn admin(self) -> u16
         ensures { result ≡ self.admin }
     {
         self.admin
     }
 
     /// How many threads send.
-    pub(crate) fn senders(self) -> usize
+    pub fn senders(self) -> usize
         ensures value { result ≡ self.senders }
         ensures range { (1 ≤ result) × (result ≤ MOST_SENDERS) }
     {
@@ -109,21 +109,21 @@ impl RunOptions {
     }
 
     /// How many threads receive lines.
-    pub(crate) fn line_receivers(self) -> usize
+    pub fn line_receivers(self) -> usize
         ensures { result ≡ self.line_receivers }
     {
         self.line_receivers
     }
 
     /// After how many seconds an idle connection is closed; never with 0.
-    pub(crate) fn idle(self) -> u64
+    pub fn idle(self) -> u64
         ensures { result ≡ self.idle }
     {
         self.idle
     }
 
     /// For how many seconds the senders go on after `stop`.
-    pub(crate) fn drain(self) -> u64
+    pub fn drain(self) -> u64
         ensures { result ≡ self.drain }
     {
         self.drain

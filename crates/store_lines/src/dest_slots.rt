@@ -12,13 +12,13 @@ use std::sync::Mutex;
 /// For each destination what is left of it, while its sender does not have that: before the sender has begun, and after it has
 /// ended. No two threads are at a slot at once.
 #[derive(Drop)]
-pub(crate) struct DestSlots {
+pub struct DestSlots {
     slots: Vec<Mutex<LeftDest>>,
 }
 
 impl DestSlots {
     /// So many slots, in which nothing is left. Refuses if out of memory.
-    pub(crate) fn new(alloc: Global, count: usize) -> Result<DestSlots, NoMemory> {
+    pub fn new(alloc: Global, count: usize) -> Result<DestSlots, NoMemory> {
         let mut slots = Vec::new(alloc);
         for _ in 0..count {
             add(&mut slots, Mutex::new(LeftDest::none()))?;
@@ -27,19 +27,19 @@ impl DestSlots {
     }
 
     /// Puts what is left of a destination into its slot. No other thread is there. It takes no memory.
-    pub(crate) fn put(&mut self, place: usize, left: LeftDest) {
+    pub fn put(&mut self, place: usize, left: LeftDest) {
         if let Some(slot) = self.get_mut(place) {
             *slot = left;
         }
     }
 
     /// How many slots there are.
-    pub(crate) fn len(&self) -> usize {
+    pub fn len(&self) -> usize {
         self.slots.len()
     }
 
     /// Takes what is left of a destination.
-    pub(crate) fn take(&self, place: usize) -> LeftDest {
+    pub fn take(&self, place: usize) -> LeftDest {
         match self.slots.get(place) {
             Some(slot) => match slot.try_lock() {
                 Some(mut left) => mem::replace(&mut *left, LeftDest::none()),
@@ -88,7 +88,7 @@ impl DestSlots {
     }
 
     /// What is left of a destination. No other thread is there.
-    pub(crate) fn get_mut(&mut self, place: usize) -> Option<&mut LeftDest> {
+    pub fn get_mut(&mut self, place: usize) -> Option<&mut LeftDest> {
         match self.slots.get_mut(place) {
             Some(slot) => Some(slot.get_mut()),
             None => None,

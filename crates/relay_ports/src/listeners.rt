@@ -1,7 +1,7 @@
 //! The ports at which a relay listens.
 
 ghost use Rattle.std.specs.Prelude.{◌≡◌, true, IfErr};
-ghost use Rattle.relay_run.specs.Running.{is_start_fault};
+ghost use Rattle.relay_ports.specs.StartFault.{is_start_fault};
 
 use crate::datagram_room::ask_for_room;
 use crate::descriptors::{room_of, share_room};
@@ -14,7 +14,6 @@ use mio_loops::ReadinessFault;
 use receivers::StreamPort;
 use relay_base::{MOST_LINE_RECEIVERS, add};
 use relay_files::{ListenRole, RelayFault};
-use relay_watchers::StatusServer;
 use status_server::StatusListener;
 use std::alloc::Global;
 use std::net::{IpAddr, Ipv4Addr, Net, SocketAddr};
@@ -22,7 +21,7 @@ use std::{io, net};
 
 /// A port that was bound, by what it receives.
 #[derive(Drop)]
-pub(crate) enum BoundPort {
+pub enum BoundPort {
     /// Connections of lines, and the name of their receiver.
     Lines(StreamPort, &'static str),
     /// Connections of pickles.
@@ -56,33 +55,39 @@ const LINE_NAMES: [&str; MOST_LINE_RECEIVERS] = [
     "line 0", "line 1", "line 2", "line 3", "line 4", "line 5",
 ];
 
-/// What was bound: the ports of receivers, those that the first thread keeps, and the status server, if there is one.
+/// What was bound: the ports of receivers, those that the first thread keeps, and what serves the status, if there is to be that.
 #[derive(Drop)]
-pub(crate) struct Ports {
-    pub(crate) receivers: Vec<BoundPort>,
-    pub(crate) first: FirstPorts,
-    pub(crate) status: Option<StatusServer>,
+pub struct Ports<S> {
+    /// The ports of receivers.
+    pub receivers: Vec<BoundPort>,
+    /// Those that the first thread keeps.
+    pub first: FirstPorts,
+    /// What serves the status.
+    pub status: Option<S>,
 }
 
 /// The ports that the first thread keeps from one run to the next: that of commands, with what the log has of those that were
 /// refused there, and another of each port of receivers, so that these stay open between two runs.
 #[derive(Drop)]
-pub(crate) struct FirstPorts {
-    pub(crate) admin: AdminListener,
-    pub(crate) said: SaidRefusals,
-    pub(crate) kept: Vec<BoundPort>,
+pub struct FirstPorts {
+    /// The port of commands.
+    pub admin: AdminListener,
+    /// What the log has of those that were refused there.
+    pub said: SaidRefusals,
+    // Another of each port of receivers.
+    kept: Vec<BoundPort>,
 }
 
 impl FirstPorts {
     /// The ports of the receivers of one more run. Refuses (`Listen`) if the system does, and `NoMemory` if out of memory.
-    pub(crate) fn for_receivers(&self, alloc: Global) -> Result<Vec<BoundPort>, RelayFault>
+    pub fn for_receivers(&self, alloc: Global) -> Result<Vec<BoundPort>, RelayFault>
         ensures { IfErr result (λ fault. is_start_fault fault ≡ true) }
     {
         clones_of(alloc, self.kept.as_slice())
     }
 
     /// So many stores had a descriptor, and from now on so many have: producers get the others, if their number is limited.
-    pub(crate) fn keep_for_stores(&self, before: usize, now: usize) {
+    pub fn keep_for_stores(&self, before: usize, now: usize) {
         // All ports share one room.
         for port in &self.kept {
             if let BoundPort::Lines(port, _) | BoundPort::Pickles(port) = port {
@@ -95,7 +100,7 @@ impl FirstPorts {
     }
 
     /// The ports of receivers end with those of the run.
-    pub(crate) fn shut(&mut self) {
+    pub fn shut(&mut self) {
         self.kept.clear();
     }
 }
@@ -117,12 +122,12 @@ fn clones_of(alloc: Global, ports: &[BoundPort]) -> Result<Vec<BoundPort>, Relay
 /// Binds the ports of receivers, the admin port and the port of the status server, in this order. Refuses (`Listen`) the
 /// first that cannot be bound, and too few descriptors; what was bound is closed again. The receivers leave descriptors for
 /// the stores.
-pub(crate) fn bind_all<R: Net>(
+pub fn bind_all<R: Net>(
     rt: &R,
     alloc: Global,
     settings: &Settings,
     options: RunOptions,
-) -> Result<Ports, RelayFault>
+) -> Result<Ports<StatusListener>, RelayFault>
     ensures { IfErr result (λ fault. is_start_fault fault ≡ true) }
 {
     let receivers = bind_receivers(rt, alloc, settings, options.line_receivers())?;
@@ -145,13 +150,13 @@ pub(crate) fn bind_all<R: Net>(
     }
 }
 
-/// Binds the port of the status server, the last, keeps the ports of the receivers open, and limits the receivers of all.
+/// Binds the port of the status, the last, keeps the ports of the receivers open, and limits the receivers of all.
 fn bind_last<R: Net>(
     rt: &R,
     alloc: Global,
     settings: &Settings,
     options: RunOptions,
-    ports: &mut Ports,
+    ports: &mut Ports<StatusListener>,
 ) -> Result<(), RelayFault>
     ensures { IfErr result (λ fault. is_start_fault fault ≡ true) }
 {
@@ -289,7 +294,7 @@ fn bind_status<R: Net>(
     rt: &R,
     alloc: Global,
     status: Option<StatusOptions>,
-) -> Result<Option<StatusServer>, RelayFault>
+) -> Result<Option<StatusListener>, RelayFault>
     ensures { IfErr result (λ fault. is_start_fault fault ≡ true) }
 {
     let Some(options) = status else {
@@ -300,7 +305,7 @@ fn bind_status<R: Net>(
         return Err(RelayFault::Listen { role });
     };
     match StatusListener::new(rt, alloc, listener, options.address.ip()) {
-        Ok(listener) => Ok(Some(StatusServer::new(alloc, listener))),
+        Ok(listener) => Ok(Some(listener)),
         Err(fault) => Err(watch_fault(fault, role)),
     }
 }

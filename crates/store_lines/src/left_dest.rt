@@ -13,21 +13,25 @@ use spool::{DestSpool, SpoolNotes};
 ///
 /// What a queue held that has no room behind the rest is another rest, the later one: the first one is to go to the file.
 #[derive(Drop)]
-pub(crate) struct LeftDest {
-    pub(crate) rest: Option<Rest>,
-    pub(crate) later: Option<Rest>,
-    pub(crate) files: Option<DestSpool>,
-    pub(crate) socket: Option<KeptSocket>,
+pub struct LeftDest {
+    /// What its sender had in hand, with what its queue held.
+    pub rest: Option<Rest>,
+    /// The later rest.
+    pub later: Option<Rest>,
+    /// The files.
+    pub files: Option<DestSpool>,
+    /// The connection's socket.
+    pub socket: Option<KeptSocket>,
 }
 
 impl LeftDest {
     /// Nothing.
-    pub(crate) fn none() -> LeftDest {
+    pub fn none() -> LeftDest {
         LeftDest::with_files(None)
     }
 
     /// Only files.
-    pub(crate) fn with_files(files: Option<DestSpool>) -> LeftDest
+    pub fn with_files(files: Option<DestSpool>) -> LeftDest
         ensures { (result.files ≡ files) × (result.rest ≡ None) × (result.later ≡ None) }
     {
         LeftDest {
@@ -39,7 +43,7 @@ impl LeftDest {
     }
 
     /// What is left for a destination of the next run: what was left for it if the run before knew it, otherwise its files.
-    pub(crate) fn known_or_new(known: Option<LeftDest>, files: Option<DestSpool>) -> LeftDest
+    pub fn known_or_new(known: Option<LeftDest>, files: Option<DestSpool>) -> LeftDest
         ensures known { IfSome known (λ left. result ≡ left) }
         ensures new { known ≡ None → (result.files ≡ files) × (result.rest ≡ None) × (result.later ≡ None) }
     {
@@ -81,14 +85,14 @@ impl LeftDest {
     }
 
     /// How many datapoints wait behind the hand, and how many are in it.
-    pub(crate) fn counts(&self) -> (usize, usize) {
+    pub fn counts(&self) -> (usize, usize) {
         let (queued, in_hand) = counts_of(&self.rest);
         let (more, _none_in_hand) = counts_of(&self.later);
         (queued.saturating_add(more), in_hand)
     }
 
     /// Whether no datapoint is left, and no connection.
-    pub(crate) fn is_nothing(&self) -> bool {
+    pub fn is_nothing(&self) -> bool {
         self.counts() == (0, 0) && !self.is_behind_file() && self.socket.is_none()
     }
 
@@ -100,7 +104,7 @@ impl LeftDest {
     }
 
     /// Whether the earlier file is not sent yet.
-    pub(crate) fn is_behind_file(&self) -> bool {
+    pub fn is_behind_file(&self) -> bool {
         match &self.files {
             Some(files) => files.is_behind(),
             None => false,
@@ -109,7 +113,7 @@ impl LeftDest {
 }
 
 /// How many datapoints of a rest wait behind the hand, and how many are in it.
-pub(crate) fn counts_of(rest: &Option<Rest>) -> (usize, usize) {
+pub fn counts_of(rest: &Option<Rest>) -> (usize, usize) {
     match rest {
         Some(rest) => (rest.queued(), rest.in_hand()),
         None => (0, 0),
