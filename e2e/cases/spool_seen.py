@@ -64,7 +64,7 @@ class WithSight(WithSpool):
         """Stops a relay, and gives the first line that its log has of a destination: the datapoints, the bytes and the age."""
         self.ends(relay)
         log.thread.join()
-        found = re.fullmatch(rb"spool waits, (\d+) datapoints, (\d+) bytes, last written (\d+) s ago", log.of(dest)[0])
+        found = re.fullmatch(rb"spool waits, (\d+) datapoints, (\d+) bytes, (\d+) seconds old", log.of(dest)[0])
         self.assertTrue(found, log.of(dest))
         return tuple(map(int, found.groups()))
 

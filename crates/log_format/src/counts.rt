@@ -13,7 +13,7 @@ pub struct Count {
 }
 
 /// What a count has behind its number, and its name.
-static BEHIND: [(&str, &str); 20] = [
+static BEHIND: [(&str, &str); 22] = [
     ("lines lost", "lines_lost"),
     ("bad line", "bad_lines"),
     ("bad pickle", "bad_pickles"),
@@ -32,6 +32,8 @@ static BEHIND: [(&str, &str); 20] = [
     ("datapoints spooled", "spooled"),
     ("datapoints not sent", "not_sent"),
     ("datapoints", "datapoints"),
+    ("bytes", "bytes"),
+    ("seconds old", "age_seconds"),
     ("unknown command", "unknown_commands"),
     ("without the key", "without_key"),
 ];

@@ -182,7 +182,7 @@ impl<'a> OpenFolder<'a> {
         let age = waiting.age(clock);
         write!(
             self.news,
-            "destination {dest} spool waits, {datapoints} datapoints, {bytes} bytes, last written {age} s ago\n"
+            "destination {dest} spool waits, {datapoints} datapoints, {bytes} bytes, {age} seconds old\n"
         )
     }
 

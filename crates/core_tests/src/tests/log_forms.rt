@@ -15,7 +15,7 @@ const SECONDS: u64 = 1_795_901_707;
 
 const TIME: &str = "2026-11-28T21:35:07Z";
 
-static FORMS: [Form; 23] = [
+static FORMS: [Form; 24] = [
     Form {
         line: "destination h:1:a connected\n",
         timed: " info destination h:1:a connected\n",
@@ -35,6 +35,11 @@ static FORMS: [Form; 23] = [
         line: "destination h:1 dropped 12 at a reload\n",
         timed: " warning destination h:1 dropped 12 at a reload\n",
         json: r#""level":"warning","destination":"h:1","what":"dropped 12 at a reload","counts":{"dropped":12}}"#,
+    },
+    Form {
+        line: "destination h:1 spool waits, 3 datapoints, 36 bytes, 5 seconds old\n",
+        timed: " info destination h:1 spool waits, 3 datapoints, 36 bytes, 5 seconds old\n",
+        json: r#""level":"info","destination":"h:1","what":"spool waits, 3 datapoints, 36 bytes, 5 seconds old","counts":{"datapoints":3,"bytes":36,"age_seconds":5}}"#,
     },
     Form {
         line: "log: 12 lines lost\n",
