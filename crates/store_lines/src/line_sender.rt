@@ -34,8 +34,8 @@ pub struct LineSender<'x, R: Wait + SpoolDisk + Drop> {
     pub orders: &'x EndOrders,
     /// Where it is counted what the connections take; `None` if what is queued at the end is lost.
     pub end: Option<&'x EndState>,
-    ghost dests: { (1 ≤ share.dests) × (share.dests ≤ 64) },
-    ghost limit: { (1 ≤ limit) × (limit ≤ 10000) },
+    ghost few: { (1 ≤ share.dests) × (share.dests ≤ 64) },
+    ghost most: { (1 ≤ limit) × (limit ≤ 10000) },
 }
 
 impl<'x, R: Wait + Clock + Net + SpoolDisk + Copy + Drop> LineSender<'x, R> {
