@@ -15,6 +15,8 @@ from fixtures.reloading import ALL, FOREVER, RELOADED, Reloads, numbered, text_o
 from fixtures.running import Relay, frame
 from fixtures.stores import free_ports
 
+MANY = 1_000  # connections
+
 
 class Connections(Reloads):
     """What producers see of a reload: nothing."""
@@ -41,10 +43,10 @@ class Connections(Reloads):
         with self.running(dests) as relay, socket.create_connection(("127.0.0.1", relay.pickle), LIMIT) as producer:
             for cut in (2, 700):
                 producer.sendall(whole[:cut])
-                self.wait_for(lambda: sockets.unread(relay.pickle) == 0, "it is read")
+                self.wait_for(lambda: sockets.under_way(relay.pickle) == 0, "it is read")
                 self.reloads(relay, dests)
                 producer.sendall(whole[cut:cut + 100])
-                self.wait_for(lambda: sockets.unread(relay.pickle) == 0, "it is read")
+                self.wait_for(lambda: sockets.under_way(relay.pickle) == 0, "it is read")
                 self.reloads(relay, dests)
                 producer.sendall(whole[cut + 100:])
             self.wait_for(lambda: len(store.lines()) == 1_000, "all rows have come")
@@ -90,6 +92,24 @@ class Connections(Reloads):
                     start = b"l%d." % number
                     self.assertEqual([line for line in store.lines() if line.startswith(start)],
                                      [b"l%d.%d %d 1700000000" % (number, turn, turn) for turn in range(5)])
+            self.stops(relay)
+
+    def test_many_connections(self):
+        """Each of them goes on in the middle of its line."""
+        self.needs_descriptors(2 * MANY)
+        store, = self.stores(1)
+        dests = [f"127.0.0.1:{store.port}"]
+        with self.running(dests) as relay, contextlib.ExitStack() as at_end:
+            producers = [at_end.enter_context(socket.create_connection(("127.0.0.1", relay.line), LIMIT)) for _ in range(MANY)]
+            for number, producer in enumerate(producers):
+                producer.sendall(b"m.%d 1 17" % number)
+            self.wait_for(lambda: sockets.under_way(relay.line) == 0, "all is read")
+            for _ in range(2):
+                self.reloads(relay, dests)
+            for producer in producers:
+                producer.sendall(b"00000000\n")
+            self.wait_for(lambda: len(store.lines()) == MANY, "all lines have come")
+            self.assertEqual(sorted(store.lines()), sorted(b"m.%d 1 1700000000" % number for number in range(MANY)))
             self.stops(relay)
 
     def test_an_idle_connection(self):
