@@ -13,10 +13,9 @@ import threading
 import time
 import urllib.request
 
-from cases.receiving import shown
 from fixtures.harness import LIMIT
 from fixtures.program import TOP
-from fixtures.running import WithRelays
+from fixtures.running import WithRelays, shown
 from fixtures.stores import free_ports
 
 SCRIPT = os.path.join(TOP, "examples", "report_to_graphite.py")

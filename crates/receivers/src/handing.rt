@@ -3,34 +3,44 @@
 ghost use Rattle.std.specs.Prelude.{◌≡◌, ◌<◌};
 
 use crate::accept::Accept;
-use mio_loops::{MOST_CONNECTIONS, ReadLoop, Token};
+use mio_loops::{InputLog, LeavingLoop, MOST_CONNECTIONS, ReadLoop, Token};
 
-/// If the receiver was stopped, gives the listener each connection that is held, with the bytes that were not read as whole
-/// lines or frames.
-pub(crate) fn hand_over_if<A: Accept>(
+/// Ends a loop of connections, and returns what its readers were fed. If the receiver was stopped, the listener gets each
+/// connection that is held, with the bytes that were not read as whole lines or frames; otherwise they are closed.
+pub(crate) fn end_loop<A: Accept>(
     is_stopped: bool,
     listener: &mut A,
-    reads: &mut ReadLoop<A::Stream>,
-)
-    ensures rest { (reads.new.first ≡ reads.old.first) × (reads.new.readers ≡ reads.old.readers)
-        × (reads.new.log ≡ reads.old.log) }
+    reads: ReadLoop<A::Stream>,
+) -> InputLog
+    ensures { result ≡ reads.log }
 {
-    if !is_stopped {
-        return;
+    let mut leaving = LeavingLoop::new(reads);
+    if is_stopped {
+        hand_over_all(listener, &mut leaving);
     }
+    leaving.close()
+}
+
+/// Gives the listener each connection that is held.
+fn hand_over_all<A: Accept>(listener: &mut A, leaving: &mut LeavingLoop<A::Stream>)
+    ensures log { leaving.new.log ≡ leaving.old.log }
+{
     for token in 0..MOST_CONNECTIONS {
-        hand_over_one(listener, reads, Token(token));
+        hand_over_one(listener, leaving, Token(token));
     }
     listener.hand_over_others();
 }
 
 /// Gives the listener the connection of a token, if it is held.
-fn hand_over_one<A: Accept>(listener: &mut A, reads: &mut ReadLoop<A::Stream>, token: Token)
+fn hand_over_one<A: Accept>(
+    listener: &mut A,
+    leaving: &mut LeavingLoop<A::Stream>,
+    token: Token,
+)
     requires within { token.0 < MOST_CONNECTIONS }
-    ensures rest { (reads.new.first ≡ reads.old.first) × (reads.new.readers ≡ reads.old.readers)
-        × (reads.new.log ≡ reads.old.log) }
+    ensures log { leaving.new.log ≡ leaving.old.log }
 {
-    if let Some(stream) = reads.take_out(token) {
-        listener.hand_over(token, stream, reads.rest(token));
+    if let Some(stream) = leaving.take_out(token) {
+        listener.hand_over(token, stream, leaving.rest(token));
     }
 }

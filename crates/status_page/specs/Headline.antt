@@ -131,3 +131,23 @@ opening dests h =
     if is_of_away h
     then decimal (count_by is_away dests) ++ codes " of " ++ decimal (length dests) ++ opening_words h
     else opening_words h
+
+-- its colour: red where data is lost or soon will be, green where all is well, and yellow otherwise
+abbrev pub class_of : Headline → List ℕ
+class_of it.Stopping = codes "warn"
+class_of (it.Losing place) = codes "ill"
+class_of (it.Deaf place) = codes "ill"
+class_of (it.Filling place) = codes "ill"
+class_of (it.Stuck place) = codes "ill"
+class_of (it.Away place) = codes "warn"
+class_of (it.Flapping place) = codes "warn"
+class_of (it.Bad place) = codes "warn"
+class_of it.Silent = codes "warn"
+class_of it.Well = codes "good"
+
+-- how the title of the page begins, and how its heading does
+abbrev pub title_start : Snapshot → List ℕ
+title_start s = codes "<title>" ++ opening s.dests.items (headline s)
+
+abbrev pub heading_start : Snapshot → List ℕ
+heading_start s = codes "<h1 class=\"" ++ class_of (headline s) ++ codes "\">" ++ opening s.dests.items (headline s)

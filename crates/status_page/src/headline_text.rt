@@ -3,9 +3,9 @@
 ghost use Rattle.std.specs.Prelude.{◌≡◌, ◌++◌, codes, decimal, length, OnOk};
 ghost use Rattle.std.specs.List.{count_by};
 ghost use Rattle.std.specs.String.{string_bytes};
-ghost use Rattle.status_page.specs.Headline.{is_away, is_of_away, opening, opening_words};
+ghost use Rattle.status_page.specs.Headline.{class_of, heading_start, is_away, is_of_away, opening, opening_words, title_start};
 
-use crate::headline::{Headline, is_away, is_losing, is_stuck};
+use crate::headline::{Headline, headline_of, is_away, is_losing, is_stuck};
 use crate::numbers::{push_count, push_duration, push_millis};
 use crate::plain::plain;
 use crate::snapshot::{DestSnapshot, ReceiverSnapshot, Snapshot};
@@ -14,13 +14,43 @@ use log_lines::ReceiverState;
 use std::alloc::AllocError;
 use std::fmt::Write as _;
 
-/// Adds what the status says first, in one sentence.
-pub(crate) fn push_headline(
+/// Begins the title, which is the browser's tab, with the first words of what the status says first.
+pub(crate) fn push_title(text: &mut String, now: &Snapshot) -> Result<(), AllocError>
+    ensures { OnOk result (string_bytes text.new ≡ string_bytes text.old ++ title_start now.now) }
+{
+    text.push_str("<title>")?;
+    push_opening(text, now.dests.as_slice(), headline_of(now))
+}
+
+/// Begins the heading with them, in its colour.
+pub(crate) fn push_heading(text: &mut String, now: &Snapshot) -> Result<(), AllocError>
+    ensures { OnOk result (string_bytes text.new ≡ string_bytes text.old ++ heading_start now.now) }
+{
+    let headline = headline_of(now);
+    write!(text, "<h1 class=\"{}\">", class_of(headline))?;
+    push_opening(text, now.dests.as_slice(), headline)
+}
+
+/// How it is coloured: red where data is lost or soon will be, green where all is well.
+pub(crate) fn class_of(headline: Headline) -> &'static str
+    ensures { result.now ≡ class_of headline }
+{
+    match headline {
+        Headline::Losing { .. }
+        | Headline::Deaf { .. }
+        | Headline::Filling { .. }
+        | Headline::Stuck { .. } => "ill",
+        Headline::Well => "good",
+        _ => "warn",
+    }
+}
+
+/// Adds what follows these words.
+pub(crate) fn push_sentence(
     text: &mut String,
     now: &Snapshot,
     headline: Headline,
 ) -> Result<(), AllocError> {
-    push_opening(text, now.dests.as_slice(), headline)?;
     match headline {
         Headline::Stopping => push_stopping(text, now),
         Headline::Losing { place } => push_losing(text, now, place),

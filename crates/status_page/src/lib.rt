@@ -3,7 +3,7 @@
 //! A [`Snapshot`] holds what is shown; nothing in it comes from a producer. `specs/Json.antt` and
 //! `specs/Metrics.antt` define the JSON and the metrics, and [`push_json`] and [`push_metrics`] append exactly these.
 //! `specs/Headline.antt` defines what the status says first, the worst that is true, and the words that it begins with.
-//! [`push_page`], which begins with it, has no clause on its text.
+//! Title and heading of the page begin with these; the rest of [`push_page`]'s text has no clause.
 #![tactic(auto)]
 
 mod dest_card;
