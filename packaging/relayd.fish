@@ -50,6 +50,6 @@ complete -c relayd -n '__relayd_command run' -l status-interface -x -d 'The addr
 complete -c relayd -n '__relayd_command run' -l log -d 'Write events to standard error'
 complete -c relayd -n '__relayd_command run' -l log-format -x -a 'text timed json' -d 'The form of the log'
 complete -c relayd -n '__relayd_command run' -l record -r -F -d 'The file of the record of the run'
-complete -c relayd -n '__relayd_command run report stop restart reload' -l admin -x -d 'The admin port of the relay'
-complete -c relayd -n '__relayd_command run report stop restart reload' -l admin-key -r -F -d "The file of the admin port's key"
+complete -c relayd -n '__relayd_command route run report stop restart reload' -l admin -x -d 'The admin port of the relay'
+complete -c relayd -n '__relayd_command route run report stop restart reload' -l admin-key -r -F -d "The file of the admin port's key"
 complete -c relayd -n '__relayd_command stop' -l wait -d 'Wait until the relay has ended'
