@@ -10,11 +10,11 @@ use admin_client::{
     AdminFault, LONGEST_ROUTED, RelayAt, RouteAnswer, route_answer_in, route_answer_to,
 };
 use command_line::{AdminAt, AskedNames, OutputForm, RouteOutput};
-use line_text::{Name, NameFault};
+use line_text::Name;
 use log_format::{push_key, push_member, push_string};
-use relay_base::utf8_text;
+use relay_base::{NoMemory, utf8_text};
 use relay_files::{RelayFault, Role, Status, flush, write_all};
-use std::alloc::{AllocError, Global};
+use std::alloc::Global;
 use std::io::Write;
 
 /// The routes of a running relay, as they are written.
@@ -107,7 +107,7 @@ impl<'r> LiveRoutes<'r> {
     /// The line or the object of a name of which the relay answers this.
     fn text_of(&mut self, name: &str, answer: RouteAnswer<'_>) -> Result<String, RelayFault> {
         let words = words_of(answer);
-        self.has_fault = self.has_fault || words.is_none_or(|words| !words.contains(' '));
+        self.has_fault = self.has_fault || !goes_somewhere(words);
         let mut text = String::new(self.alloc);
         match self.form {
             OutputForm::Json => push_object(&mut text, name, words)?,
@@ -144,13 +144,21 @@ fn words_of(answer: RouteAnswer<'_>) -> Option<&str> {
     }
 }
 
+/// Whether a metric with these words has a destination.
+fn goes_somewhere(words: Option<&str>) -> bool {
+    match words {
+        Some(words) => words.contains(' '),
+        None => false,
+    }
+}
+
 /// Adds the line of a name with these words, after the name if the relay sends on another one, or none, and that is wanted.
 fn push_line(
     text: &mut String,
     name: &str,
     words: Option<&str>,
     shows_name: bool,
-) -> Result<(), AllocError> {
+) -> Result<(), NoMemory> {
     let is_other = match words {
         Some(words) => words.split(' ').next() != Some(name),
         None => true,
@@ -160,16 +168,16 @@ fn push_line(
         text.push(' ')?;
     }
     text.push_str(words.unwrap_or("dropped"))?;
-    text.push('\n')
+    Ok(text.push('\n')?)
 }
 
 /// Adds the object of a name with these words.
-fn push_object(text: &mut String, name: &str, words: Option<&str>) -> Result<(), AllocError> {
+fn push_object(text: &mut String, name: &str, words: Option<&str>) -> Result<(), NoMemory> {
     text.push('{')?;
     push_member(text, "name", name)?;
     push_key(text, "rewritten")?;
     let Some(words) = words else {
-        return text.push_str("null,\"destinations\":[],\"dropped\":true}\n");
+        return Ok(text.push_str("null,\"destinations\":[],\"dropped\":true}\n")?);
     };
     let mut words = words.split(' ');
     push_string(text, words.next().unwrap_or(""))?;
@@ -181,5 +189,5 @@ fn push_object(text: &mut String, name: &str, words: Option<&str>) -> Result<(),
         }
         push_string(text, dest)?;
     }
-    text.push_str("],\"dropped\":false}\n")
+    Ok(text.push_str("],\"dropped\":false}\n")?)
 }
