@@ -46,7 +46,7 @@ class Command(NamedTuple):
     name: str
     about: str
     words: list
-    choice: list  # the names of the words of which one has to be given
+    choices: list  # pairs of the names of words of which one has to be given
 
     def options(self):
         """The options that its help shows."""
@@ -87,10 +87,10 @@ def commands():
     found = []
     for table in COMMAND.findall(text):
         name, about = (re.search(rf"\b{field}: {STRING}", table)[1] for field in ("name", "about"))
-        own = re.search(r"\bfiles: (.*?)\n    words: &\[(.*)\],\n    choice: (.*)", table, re.DOTALL)
+        own = re.search(r"\bfiles: (.*?)\n    words: &\[(.*)\],\n    choices: (.*)", table, re.DOTALL)
         first = files if own[1] == "FILES," else words_in(own[1], constants)
-        chosen = re.search(rf"words: \[{STRING}, {STRING}\]", own[3])
-        found.append(Command(name, about, first + words_in(own[2], constants), list(chosen.groups()) if chosen else []))
+        choices = re.findall(rf"words: \[{STRING}, {STRING}\]", own[3])
+        found.append(Command(name, about, first + words_in(own[2], constants), choices))
     return found
 
 

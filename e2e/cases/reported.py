@@ -1,6 +1,5 @@
 """`examples/report_to_graphite.py`: what a running relay reports comes to a store as datapoints, under carbon's names."""
 
-import contextlib
 import json
 import os
 import re
@@ -9,10 +8,10 @@ import socket
 import subprocess
 import sys
 import tempfile
-import threading
 import time
 import urllib.request
 
+from fixtures.answering import answering
 from fixtures.harness import LIMIT
 from fixtures.program import TOP
 from fixtures.running import WithRelays, shown
@@ -31,27 +30,6 @@ def script(admin, port, *words):
     ran = subprocess.run([sys.executable, SCRIPT, "--admin", str(admin), "--to", f"127.0.0.1:{port}", *words],
                          stdout=subprocess.PIPE, stderr=subprocess.PIPE, timeout=LIMIT)
     return ran.returncode, ran.stdout + ran.stderr
-
-
-@contextlib.contextmanager
-def answering(answer):
-    """A program at an admin port, which answers each connection so, and its port."""
-    with socket.create_server(("127.0.0.1", 0)) as listener:
-        def take():
-            while True:
-                try:
-                    stream, _ = listener.accept()
-                except OSError:
-                    return
-                with stream, contextlib.suppress(OSError):
-                    stream.recv(64)
-                    answer(stream)
-
-        threading.Thread(target=take, daemon=True).start()
-        try:
-            yield listener.getsockname()[1]
-        finally:
-            listener.shutdown(socket.SHUT_RDWR)
 
 
 def is_shown(status):

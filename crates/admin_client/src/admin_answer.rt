@@ -8,13 +8,14 @@ use crate::admin_fault::AdminFault;
 use crate::admin_key::WRONG_KEY;
 use crate::reload_answer::{RELOADED, reload_answer_in};
 use crate::reload_files::reload_files_in;
+use crate::route_answer::{DROPPED, ROUTED, route_answer_in};
 
 /// What each line of a report begins with.
 const DESTINATION: &[u8] = b"destination ";
 
 /// Refuses all that arrived on a connection, up to its end, if it is not what a relay answers to a command: `stopping` to
-/// `stop`, lines of destinations, one or more, to `report`, `reloaded` or a refusal with its reason to `reload`, and the name of
-/// a configuration file, with others, to `files`.
+/// `stop`, lines of destinations, one or more, to `report`, `reloaded` or a refusal with its reason to `reload`, the name of
+/// a configuration file, with others, to `files`, and where a metric goes to `route`.
 pub(crate) fn check_answer(command: AdminCommand, answer: &[u8]) -> Result<(), AdminFault>
     ensures ok { OnOk result (IsAnswerTo command answer.now) }
     ensures whole { OnOk result (is_whole answer.now ≡ true) }
@@ -33,6 +34,7 @@ pub(crate) fn check_answer(command: AdminCommand, answer: &[u8]) -> Result<(), A
         AdminCommand::Report => check_report(answer),
         AdminCommand::Reload => check_reload(answer),
         AdminCommand::Files => check_files(answer),
+        AdminCommand::Route => check_route(answer),
     }
 }
 
@@ -71,6 +73,21 @@ fn check_files(answer: &[u8]) -> Result<(), AdminFault>
     match reload_files_in(answer) {
         Some(_) if answer.ends_with(b"\n") => Ok(()),
         Some(_) => Err(AdminFault::CutOff),
+        None => Err(AdminFault::NoRelay),
+    }
+}
+
+/// Refuses what does not say where a metric goes, and an answer whose last line has no end.
+fn check_route(answer: &[u8]) -> Result<(), AdminFault>
+    ensures ok { OnOk result (IsAnswerTo AdminCommand.Route answer.now) }
+    ensures whole { OnOk result (is_whole answer.now ≡ true) }
+{
+    match route_answer_in(answer) {
+        Some(_) if answer.ends_with(b"\n") => Ok(()),
+        Some(_) => Err(AdminFault::CutOff),
+        None if ROUTED.starts_with(answer) || DROPPED.starts_with(answer) => {
+            Err(AdminFault::CutOff)
+        }
         None => Err(AdminFault::NoRelay),
     }
 }

@@ -122,13 +122,16 @@ fn is_same(given: &[u8], key: &[u8]) -> bool
     is_same
 }
 
-/// What a client sends for a command, with this key, or without one. Refuses if out of memory.
+/// What a client sends for a command and the name that it asks for, or an empty one, with this key, or without one. Refuses if
+/// out of memory.
 pub(crate) fn request_of(
     alloc: Global,
     key: Option<&[u8]>,
     command: AdminCommand,
+    name: &[u8],
 ) -> Result<Vec<u8>, NoMemory>
-    ensures { IfOk result (λ sent. sent.items ≡ request_of (option_map (λ k. k.now) key.entry) command) }
+    ensures { IfOk result (λ sent. sent.items
+        ≡ request_of (option_map (λ k. k.now) key.entry) command name.now) }
 {
     let mut sent = Vec::new(alloc);
     if let Some(key) = key {
@@ -136,6 +139,8 @@ pub(crate) fn request_of(
         sent.extend_from_slice(key)?;
         sent.extend_from_slice(b"\n")?;
     }
-    sent.extend_from_slice(command.line())?;
+    sent.extend_from_slice(command.words())?;
+    sent.extend_from_slice(name)?;
+    sent.extend_from_slice(b"\n")?;
     Ok(sent)
 }

@@ -5,7 +5,7 @@ ghost use Rattle.std.specs.Io.{ReadsAtMost};
 
 use mio_loops::{ReadTotals, ReadinessFault};
 use reader_core::ReaderCounts;
-use receivers::Datagrams;
+use receivers::{Datagrams, ServedInput};
 use run_state::BeginNote;
 use std::io;
 
@@ -39,6 +39,10 @@ impl<'s, A: Datagrams> Datagrams for ReadyDatagrams<'s, A> {
 
     fn note_totals(&mut self, totals: ReadTotals, emptied: u64) {
         self.socket.note_totals(totals, emptied);
+    }
+
+    fn note_served(&mut self, served: ServedInput) {
+        self.socket.note_served(served);
     }
 
     fn note_bad(&mut self, before: ReaderCounts, now: ReaderCounts, datagram: &[u8]) {

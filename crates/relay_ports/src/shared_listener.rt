@@ -5,7 +5,7 @@ ghost use Rattle.std.specs.Prelude.{◌≡◌, IfErr};
 use crate::shared_stream::SharedStream;
 use mio_loops::{MOST_CONNECTIONS, ReadTotals, ReadinessFault, Token};
 use reader_core::ReaderCounts;
-use receivers::{Accept, AcceptOutcome};
+use receivers::{Accept, AcceptOutcome, ServedInput};
 use run_state::BeginNote;
 use std::sync::atomic::{AtomicU64, Ordering};
 
@@ -159,8 +159,8 @@ impl<'s, A: Accept> Accept for SharedListener<'s, A> {
         self.listener.note_totals(totals, emptied);
     }
 
-    fn note_served(&mut self, token: Token, has_datapoints: bool) {
-        self.listener.note_served(token, has_datapoints);
+    fn note_served(&mut self, token: Token, served: ServedInput) {
+        self.listener.note_served(token, served);
     }
 
     fn note_bad(&mut self, token: Token, before: ReaderCounts, now: ReaderCounts, buffer: &[u8]) {

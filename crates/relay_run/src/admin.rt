@@ -18,6 +18,7 @@ use locked_queues::{Queues, Set};
 use mio_loops::{SystemTimes, TimeSource};
 use receivers::{ClosingWait, ReceiverControl};
 use relay_base::{DestId, NoMemory, add, put};
+use relay_commands::LiveRoutes;
 use relay_files::RunConfiguration;
 use relay_ports::FirstPorts;
 use relay_watchers::{LogEnd, StatusServer};
@@ -38,22 +39,24 @@ const READING_PAUSE_MS: u64 = 1;
 /// How many milliseconds a turn waits at most at the end of a run: so late is seen what it waits for.
 const END_PAUSE_MS: u64 = 1;
 
-/// What answers are made of: the queues of a relay with their destinations, and the names of its files.
+/// What answers are made of: the queues of a relay with their destinations, the names of its files, and its routes.
 #[derive(Drop)]
 struct ReportSource<'x, B: Set, F> {
     queues: &'x Queues<B>,
     noted: DestSources<'x>,
     files: &'x F,
+    routes: LiveRoutes<'x>,
     ghost all: { length noted.dests.now ≡ B.dests },
 }
 
 impl<'x, B: Set, F> ReportSource<'x, B, F> {
-    /// The queues of a relay, and its files.
+    /// The queues of a relay, its files and its routes.
     fn new(relay: &'x Relay<B>, files: &'x F) -> ReportSource<'x, B, F> {
         ReportSource {
             queues: &relay.queues,
             noted: relay.noted(),
             files,
+            routes: LiveRoutes::new(&relay.configuration),
         }
     }
 
@@ -95,6 +98,13 @@ impl<'x, B: Set, F: ReloadSource, R: Wait + Clock> Answers<R> for ReportSource<'
 
     fn files(&self, alloc: Global) -> Result<Vec<u8>, NoMemory> {
         Ok(self.files.names(alloc)?.into_bytes())
+    }
+
+    fn route(&mut self, alloc: Global, name: &[u8]) -> Result<Vec<u8>, NoMemory> {
+        match self.routes.answer(alloc, name)? {
+            Some(answer) => Ok(answer.into_bytes()),
+            None => Ok(Vec::new(alloc)),
+        }
     }
 
     fn key(&self) -> Option<&[u8]> {
@@ -188,7 +198,7 @@ fn answer_until_ended<B: Set, R: Wait + Clock + Net + SpoolDisk + Threads, F: Re
     files: &F,
     folder: Option<SpoolFolder<'_>>,
 ) -> Option<PreparedRun<B>> {
-    let watched = ReportSource::new(relay, files);
+    let mut watched = ReportSource::new(relay, files);
     let times = SystemTimes::since(rt, relay.began);
     let mut reading = None;
     for _ in rt.forever() {
@@ -196,7 +206,7 @@ fn answer_until_ended<B: Set, R: Wait + Clock + Net + SpoolDisk + Threads, F: Re
         say_refusals(rt, alloc, relay, ports, millis);
         if ports
             .admin
-            .take_turn(rt, alloc, &watched, millis, pause_of(reading))
+            .take_turn(rt, alloc, &mut watched, millis, pause_of(reading))
         {
             if let Some(begun) = reading {
                 ports.admin.refuse_reload(begun.connection, millis);
@@ -488,14 +498,14 @@ fn answer_until_over<R: Wait + Clock + Net, B: Set, F: ReloadSource, E: EndWait<
     wait: E,
 ) {
     let mut wait = wait;
-    let watched = ReportSource::new(relay, files);
+    let mut watched = ReportSource::new(relay, files);
     let times = SystemTimes::since(rt, relay.began);
     for _ in rt.forever() {
         let millis = times.millis();
         if wait.is_over(rt, millis) {
             return;
         }
-        let _is_stopped = listener.take_turn(rt, alloc, &watched, millis, END_PAUSE_MS);
+        let _is_stopped = listener.take_turn(rt, alloc, &mut watched, millis, END_PAUSE_MS);
         if !relay.state.signals().is_handing() {
             refuse_reload(listener, millis);
         }

@@ -13,6 +13,7 @@ mod log_buffer;
 mod log_job;
 mod log_writes;
 mod process;
+mod producer_history;
 mod receiver_log;
 mod receiver_track;
 mod status_history;

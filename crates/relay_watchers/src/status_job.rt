@@ -77,6 +77,15 @@ impl<'x, B: Set> StatusWatch<'x, B> {
         Ok(totals)
     }
 
+    /// Has the history see what producers have sent.
+    fn take_producers(&self, history: &mut StatusHistory, millis: u64) {
+        for (place, receiver) in self.receivers.as_slice().iter().enumerate() {
+            if let Some(window) = receiver.take_producers() {
+                history.put_producers(place, window, millis);
+            }
+        }
+    }
+
     /// The state of a destination, which exists.
     fn dest_at<R: Wait>(
         &self,
@@ -248,6 +257,7 @@ impl<B: Set, R: Wait + SystemFacts> StatusView<'_, '_, B, R> {
         let dests = watch.dests(self.rt, self.alloc, self.history, &times)?;
         let receivers = watch.receivers(self.alloc, self.history, &times)?;
         let queued = queued_in(dests.as_slice());
+        let producers = self.history.producers(self.alloc, times.millis)?;
         Ok(Snapshot {
             version: String::from_str(self.alloc, watch.version)?,
             configuration: hex::encode(self.alloc, &watch.configuration[..SUM_BYTES])?,
@@ -264,6 +274,8 @@ impl<B: Set, R: Wait + SystemFacts> StatusView<'_, '_, B, R> {
             process: self.rt.process_counts(),
             dests,
             receivers,
+            producers: producers.greatest,
+            other_producers: producers.others,
             sample_seconds: SAMPLE_SECONDS,
             samples: self.history.samples(self.alloc)?,
         })
@@ -386,6 +398,7 @@ fn look_when_due<B: Set, R: Wait>(
     millis: u64,
 ) {
     if history.is_due(millis) {
+        watch.take_producers(history, millis);
         if let Ok(totals) = watch.totals(rt, alloc) {
             history.look(alloc, &totals, millis);
         }

@@ -97,7 +97,7 @@ pub fn reload(rt: &HostRuntime, alloc: Global, admin: &AdminAt, explain: Explain
 }
 
 /// The relay with this admin port and key.
-fn relay_at<'k>(admin: &AdminAt, key: &'k Option<Vec<u8>>) -> RelayAt<'k> {
+pub fn relay_at<'k>(admin: &AdminAt, key: &'k Option<Vec<u8>>) -> RelayAt<'k> {
     RelayAt {
         port: admin.port,
         key: slice_of(key),
@@ -172,7 +172,7 @@ fn status_of_refusal(refusal: Refusal) -> Status {
 }
 
 /// The status of a command for the relay with this admin port, with its fault on standard error.
-fn status_of(rt: &HostRuntime, port: u16, ended: Result<(), AdminFault>) -> Status {
+pub fn status_of(rt: &HostRuntime, port: u16, ended: Result<(), AdminFault>) -> Status {
     match ended {
         Ok(()) => Status::Done,
         Err(AdminFault::NoMemory) => {
@@ -182,6 +182,10 @@ fn status_of(rt: &HostRuntime, port: u16, ended: Result<(), AdminFault>) -> Stat
         Err(AdminFault::Output) => {
             let _ = eprintln!(rt; "relayd: {}", AdminFault::Output);
             Status::DeviceFault
+        }
+        Err(AdminFault::LongName) => {
+            let _ = eprintln!(rt; "relayd: name: {}", AdminFault::LongName);
+            Status::ConfigurationFault
         }
         Err(fault) => {
             let _ = eprintln!(rt; "relayd: admin: 127.0.0.1:{port}: {fault}");

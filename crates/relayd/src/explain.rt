@@ -7,7 +7,7 @@ use crate::open_files::Files;
 use crate::reread_files::{RereadFile, RereadFiles};
 use crate::spool_folder::notes_of_folder;
 use crate::system_faults::{settings_of, write_fault_notes, write_hint};
-use command_line::{Explain, Invocation, Paths};
+use command_line::{AskedNames, Explain, Invocation, Paths};
 use config_notes::{NotesWanted, RunLimits, notes_of_files};
 use fault_notes::{Seconds, WatchedInput, notes_of_fault, notes_of_name, notes_of_names};
 use line_text::Moment;
@@ -40,6 +40,12 @@ pub fn end_with_notes(
         } => {
             if *ignores_files && *explain != Explain::Nothing {
                 let _ = rt.stderr().write_all(FILES_OF_PASS.as_bytes());
+            }
+            return status;
+        }
+        Invocation::LiveRoute { asked, explain, .. } => {
+            if *explain != Explain::Nothing && status != Status::NoMemory {
+                let _ = write(rt, notes_of_asked(files, alloc, asked));
             }
             return status;
         }
@@ -112,6 +118,7 @@ pub fn wants_notes(invocation: &Invocation) -> bool {
         Invocation::Check { explain, .. }
         | Invocation::Route { explain, .. }
         | Invocation::RouteNames { explain, .. }
+        | Invocation::LiveRoute { explain, .. }
         | Invocation::Replay { explain, .. }
         | Invocation::ReplayLines { explain, .. }
         | Invocation::Run { explain, .. }
@@ -141,6 +148,18 @@ fn notes_of_spool(
     let notes = notes_of_folder(files.runtime(), alloc, folder.as_str(), dests);
     drop(settings);
     notes
+}
+
+/// Notes of the names of which a running relay was asked.
+fn notes_of_asked(
+    files: &Files<'_>,
+    alloc: Global,
+    asked: &AskedNames,
+) -> Result<Notes, NoMemory> {
+    match asked {
+        AskedNames::Name(name) => notes_of_name(alloc, name),
+        AskedNames::File(path) => notes_of_names_at(files, alloc, path),
+    }
 }
 
 /// Notes of a file of names.

@@ -19,8 +19,10 @@ mod frame_notes;
 mod json_notes;
 mod json_report;
 mod json_route;
+mod live_route;
 mod log_output;
 mod memory_there;
+mod names_lines;
 mod note_output;
 mod open_files;
 mod passing;
@@ -44,6 +46,7 @@ use admin_key::key_at;
 use command_line::{Invocation, OutputForm, Paths, VERSION};
 use file_limit::{ErrorRoom, LimitedOutput, file_limit, limited_output};
 use files::sources_at;
+use live_route::run_live_route;
 use log_output::log_output;
 use open_files::Files;
 use passing::run_pass;
@@ -128,6 +131,12 @@ where
             output,
             ..
         } => run_route_names(files, alloc, paths, names, *output),
+        Invocation::LiveRoute {
+            admin,
+            asked,
+            output,
+            ..
+        } => run_live_route(files, alloc, admin, asked, *output),
         Invocation::Replay {
             paths,
             script,

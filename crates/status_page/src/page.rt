@@ -7,6 +7,7 @@ use crate::headline_text::{class_of, push_heading, push_sentence, push_title};
 use crate::numbers::{push_clock, push_duration};
 use crate::plain::plain;
 use crate::plot::push_plots;
+use crate::producer_table::push_producer_table;
 use crate::receiver_table::push_receiver_table;
 use crate::snapshot::{DestSnapshot, Snapshot};
 use std::alloc::AllocError;
@@ -57,6 +58,7 @@ pub fn push_page(text: &mut String, now: &Snapshot) -> Result<(), AllocError> {
     push_dest_table(text, now.dests.as_slice(), now.queue_size)?;
     text.push_str("<h2>Receivers</h2>\n")?;
     push_receiver_table(text, now.receivers.as_slice())?;
+    push_producer_table(text, now)?;
     push_plots(text, now.samples.as_slice())?;
     push_foot(text, now)
 }
