@@ -8,8 +8,8 @@ use Rattle.admin_report.specs.declared.file_report.ReportLine.{ReportLine}
 -- what waits in a file, a word and a number each
 abbrev pub file_words : FileCounts → List ℕ
 file_words f =
-    codes " spool_datapoints " ++ decimal f.datapoints ++ codes " spool_bytes " ++ decimal f.bytes
-    ++ codes " spool_age_seconds " ++ decimal f.age
+    codes " spool_datapoints " ++ (decimal f.datapoints ++ (codes " spool_bytes " ++ (decimal f.bytes
+    ++ (codes " spool_age_seconds " ++ decimal f.age))))
 
 -- these words, if something waits
 abbrev pub waiting_words : Option FileCounts → List ℕ
