@@ -96,11 +96,7 @@ impl ProducerHistory {
     /// Forgets the windows that are too old.
     fn forget(&mut self, millis: u64) {
         for _ in 0..self.windows.len() {
-            let is_old = match self.windows.get(0) {
-                Some(seen) => millis.saturating_sub(seen.taken) >= COUNTS_MS,
-                None => false,
-            };
-            if !is_old {
+            if self.windows.is_empty() || !is_old(&self.windows[0], millis) {
                 return;
             }
             let _oldest = self.windows.remove(0);
@@ -112,7 +108,7 @@ impl ProducerHistory {
         let mut all = Vec::new(alloc);
         let mut others = ProducerCounts::zero();
         for (place, seen) in self.windows.as_slice().iter().enumerate() {
-            if millis.saturating_sub(seen.taken) >= COUNTS_MS {
+            if is_old(seen, millis) {
                 continue;
             }
             let span = self.span(seen.receiver, millis);
@@ -125,7 +121,7 @@ impl ProducerHistory {
         all.sort_unstable_by_key(|producer| producer.address);
         let mut joined = joined(alloc, all.as_slice())?;
         drop(all);
-        joined.sort_unstable_by_key(|producer| u64::MAX - weight_of(producer));
+        joined.sort_unstable_by_key(|producer| u64::MAX.saturating_sub(weight_of(producer)));
         shown(alloc, joined.as_slice(), others, millis)
     }
 
@@ -133,7 +129,7 @@ impl ProducerHistory {
     fn span(&self, receiver: usize, millis: u64) -> u64 {
         let mut span: u64 = 0;
         for seen in self.windows.as_slice() {
-            if seen.receiver == receiver && millis.saturating_sub(seen.taken) < COUNTS_MS {
+            if seen.receiver == receiver && !is_old(seen, millis) {
                 span = span.saturating_add(seen.millis);
             }
         }
@@ -149,6 +145,11 @@ impl ProducerHistory {
         }
         true
     }
+}
+
+/// Whether a window no longer counts at these milliseconds.
+fn is_old(seen: &SeenWindow, millis: u64) -> bool {
+    millis.saturating_sub(seen.taken) >= COUNTS_MS
 }
 
 /// A producer of a window that counts for this time, as it was in a second, scaled. Its connections are those of the last window.
