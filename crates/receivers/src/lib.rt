@@ -9,6 +9,7 @@ mod bad_input;
 mod bad_pickle;
 mod closing;
 mod connection_room;
+mod connection_taker;
 mod connections;
 mod control;
 mod datagram_loop;
