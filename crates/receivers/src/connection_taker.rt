@@ -16,12 +16,15 @@ pub(crate) trait ConnectionTaker<S> {
 }
 
 /// A listener that takes them.
+#[derive(Drop)]
 pub(crate) struct ToListener<'l, A> {
     pub(crate) listener: &'l mut A,
 }
 
 impl<A: Accept> ConnectionTaker<A::Stream> for ToListener<'_, A> {
-    fn take_connection(&mut self, token: Token, stream: A::Stream, rest: &[u8]) {
+    fn take_connection(&mut self, token: Token, stream: A::Stream, rest: &[u8])
+        ensures { Unit {0} }
+    {
         self.listener.hand_over(token, stream, rest);
     }
 }

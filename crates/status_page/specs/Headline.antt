@@ -149,5 +149,13 @@ class_of it.Well = codes "good"
 abbrev pub title_start : Snapshot → List ℕ
 title_start s = codes "<title>" ++ opening s.dests.items (headline s)
 
+-- the tag of a heading of a class
+abbrev pub tag_of : List ℕ → List ℕ
+tag_of class = codes "<h1 class=\"" ++ class ++ codes "\">"
+
+-- the first words of a headline, in its colour
+abbrev pub words_in_colour : List DestSnapshot → Headline → List ℕ
+words_in_colour dests h = tag_of (class_of h) ++ opening dests h
+
 abbrev pub heading_start : Snapshot → List ℕ
-heading_start s = codes "<h1 class=\"" ++ class_of (headline s) ++ codes "\">" ++ opening s.dests.items (headline s)
+heading_start s = words_in_colour s.dests.items (headline s)

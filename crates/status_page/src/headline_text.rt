@@ -3,7 +3,7 @@
 ghost use Rattle.std.specs.Prelude.{◌≡◌, ◌++◌, codes, decimal, length, OnOk};
 ghost use Rattle.std.specs.List.{count_by};
 ghost use Rattle.std.specs.String.{string_bytes};
-ghost use Rattle.status_page.specs.Headline.{class_of, heading_start, is_away, is_of_away, opening, opening_words, title_start};
+ghost use Rattle.status_page.specs.Headline.{class_of, heading_start, is_away, is_of_away, opening, opening_words, tag_of, title_start, words_in_colour};
 
 use crate::headline::{Headline, headline_of, is_away, is_losing, is_stuck};
 use crate::numbers::{push_count, push_duration, push_millis};
@@ -26,9 +26,26 @@ pub(crate) fn push_title(text: &mut String, now: &Snapshot) -> Result<(), AllocE
 pub(crate) fn push_heading(text: &mut String, now: &Snapshot) -> Result<(), AllocError>
     ensures { OnOk result (string_bytes text.new ≡ string_bytes text.old ++ heading_start now.now) }
 {
-    let headline = headline_of(now);
-    write!(text, "<h1 class=\"{}\">", class_of(headline))?;
-    push_opening(text, now.dests.as_slice(), headline)
+    push_words_in_colour(text, now.dests.as_slice(), headline_of(now))
+}
+
+/// Adds a heading's tag in the colour of a headline, and the first words of that.
+fn push_words_in_colour(
+    text: &mut String,
+    dests: &[DestSnapshot],
+    headline: Headline,
+) -> Result<(), AllocError>
+    ensures { OnOk result (string_bytes text.new ≡ string_bytes text.old ++ words_in_colour dests.now headline) }
+{
+    push_tag(text, class_of(headline))?;
+    push_opening(text, dests, headline)
+}
+
+/// Adds the tag of a heading of a class.
+fn push_tag(text: &mut String, class: &str) -> Result<(), AllocError>
+    ensures { OnOk result (string_bytes text.new ≡ string_bytes text.old ++ tag_of class.now) }
+{
+    write!(text, "<h1 class=\"{class}\">")
 }
 
 /// How it is coloured: red where data is lost or soon will be, green where all is well.
