@@ -274,11 +274,13 @@ class Refusals(Reloads):
             self.assertTrue(explained.err.startswith(fault.err + b"relayd: note: "), explained)
             os.remove(config)
             away = b"relayd: config: cannot read: %s: No such file or directory (os error 2)\n" % config.encode()
-            self.refuses(relay, Ran(3, b"", away))
+            for words in ((), ("--explain",)):
+                self.refuses(relay, Ran(3, b"", away), *words)
             ports = list(relay.listening)
-            ports[0] = free_ports(1)[0]
+            old, ports[0] = ports[0], free_ports(1)[0]
             self.write("config", self.configuration(dests, ports))
-            self.refuses(relay, Ran(1, b"", b"relayd: LINE_RECEIVER_PORT: needs a restart\n"))
+            fault_of_port = f"relayd: LINE_RECEIVER_PORT: {old} runs, {ports[0]} is in the file: needs a restart\n"
+            self.refuses(relay, Ran(1, b"", fault_of_port.encode()))
             self.reloads(relay, dests)
             self.write("config", "[relay]\nDESTINATIONS = a:b\n")
             self.refuses(relay, fault)

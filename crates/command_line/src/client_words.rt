@@ -2,7 +2,7 @@
 
 use crate::commands::{EXPLAIN, FILES, JSON};
 use crate::long_help::{RELOAD_HELP, REPORT_HELP, RESTART_HELP, STOP_HELP};
-use crate::options::path_option;
+use crate::options::{check_paths, path_option};
 use crate::words::{CommandWords, Form, Word};
 use clap::{ArgMatches, Error};
 use relay_base::whole_number_up_to;
@@ -86,6 +86,7 @@ pub(crate) fn admin_at(
     options: &ArgMatches<'_>,
     command: &CommandWords,
 ) -> Result<AdminAt, Error> {
+    check_paths(alloc, options, command)?;
     Ok(AdminAt {
         port: client_port(alloc, options, command)?,
         key: path_option(alloc, options, "admin-key")?,

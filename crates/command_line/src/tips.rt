@@ -1,7 +1,7 @@
 //! Tips for words that other programs take: what `relayd` has in place of them.
 
-use crate::client_words::RELOAD;
-use crate::commands::{PASS, RUN};
+use crate::client_words::{RELOAD, REPORT};
+use crate::commands::{CHECK, PASS, RUN};
 use crate::words::CommandWords;
 use clap::Error;
 use clap::error::ErrorKind;
@@ -11,6 +11,14 @@ const STAYS: &str =
     "'relayd run' stays in the foreground; a supervisor such as systemd keeps it in the background";
 
 const STARTS: &str = "'relayd run' starts the relay, and stays in the foreground";
+
+const REPORTS: &str =
+    "'relayd report' prints the counts of a running relay; 'relayd run --status PORT' serves a page";
+
+const TAKES_OPTIONS: &str =
+    "each file has its option, such as --config FILE; --log takes none, and writes to standard error";
+
+const NAMES_COMMAND: &str = "options come after a command: relayd check --config FILE";
 
 const READS: &str = "'relayd pass' reads standard input: relayd pass < ";
 
@@ -80,6 +88,17 @@ fn tip_of<'a>(command: &str, reason: &'a str) -> Option<Tip<'a>> {
         ("run" | "", "unexpected argument '--daemon' found" | "unexpected argument '-d' found") =>
             Some(Tip::of_run(STAYS)),
         ("start", "unrecognized subcommand 'start'") => Some(Tip::of_run(STARTS)),
+        ("status", "unrecognized subcommand 'status'") => Some(Tip {
+            command: &REPORT,
+            text: REPORTS,
+            file: "",
+        }),
+        ("run", _) if file_in(reason).is_some() => Some(Tip::of_run(TAKES_OPTIONS)),
+        ("", _) if reason.starts_with("unexpected argument '-") => Some(Tip {
+            command: &CHECK,
+            text: NAMES_COMMAND,
+            file: "",
+        }),
         ("reload", _) => tip_of_reload(reason),
         ("pass", _) => Some(Tip {
             command: &PASS,

@@ -12,11 +12,15 @@ pub(crate) fn add_not_text(notes: &mut Notes, path: &str, bytes: &[u8], valid: u
         "{} line {line}: byte {byte} at column {column} is not UTF-8",
         EscapedText(path)
     ));
-    add_cure(
-        notes,
-        is_utf16(bytes).then_some(Cause::UTF16),
-        Cure::FROM_LATIN1,
-    )
+    add_cure(notes, cause_of_bytes(bytes), Cure::FROM_LATIN1)
+}
+
+/// What a file is that is no text, by its first bytes.
+fn cause_of_bytes(bytes: &[u8]) -> Option<Cause> {
+    match bytes {
+        [0x1f, 0x8b, ..] => Some(Cause::GZIP),
+        _ => is_utf16(bytes).then_some(Cause::UTF16),
+    }
 }
 
 /// Whether a file begins like one that is UTF-16.

@@ -14,10 +14,19 @@ use note_text::Notes;
 use relay_base::NoMemory;
 use relay_files::{Status, write_out};
 use std::alloc::Global;
-use std::io::Write;
+use std::io::{IsTerminal, Write};
 
 /// The words before a reason why files were not read.
-const UNREAD: &[u8] = b"files: ";
+const UNREAD: [&[u8]; 4] = [
+    b"files: ",
+    b"config: cannot read",
+    b"rules: cannot read",
+    b"rewrite: cannot read",
+];
+
+/// The hint after a fault of the admin port, at a terminal.
+const HINT: &str =
+    "relayd: note: ps -o args -C relayd shows the --admin and --admin-key of a running relay\n";
 
 /// Prints what the relay with this admin port has counted, in this form.
 pub fn report(rt: &HostRuntime, alloc: Global, admin: &AdminAt, form: OutputForm) -> Status {
@@ -119,12 +128,17 @@ fn say_answer(rt: &HostRuntime, answer: &[u8]) -> Status {
     }
 }
 
-/// Whether a relay answers that its files were not read: they may never be.
+/// Whether a relay answers that a file was not read, and why: it may never be.
 fn are_unread(answer: &[u8]) -> bool {
-    match reload_answer_in(answer) {
-        Some(ReloadAnswer::Refused { text, .. }) => text.starts_with(UNREAD),
-        _ => false,
+    let Some(ReloadAnswer::Refused { text, .. }) = reload_answer_in(answer) else {
+        return false;
+    };
+    for words in UNREAD {
+        if text.starts_with(words) {
+            return true;
+        }
     }
+    false
 }
 
 /// Writes the notes of the files that a relay reads at a reload, if it names them and there is memory.
@@ -189,6 +203,9 @@ pub fn status_of(rt: &HostRuntime, port: u16, ended: Result<(), AdminFault>) -> 
         }
         Err(fault) => {
             let _ = eprintln!(rt; "relayd: admin: 127.0.0.1:{port}: {fault}");
+            if rt.stderr().is_terminal() {
+                let _ = rt.stderr().write_all(HINT.as_bytes());
+            }
             Status::DeviceFault
         }
     }

@@ -60,7 +60,7 @@ pub fn end_with_notes(
     if status == Status::NoMemory {
         return status;
     }
-    // A relay that was stopped has had its notes from `check`, and so has one that is restarted.
+    // A relay that was stopped has had its notes at its start, and so has one that is restarted.
     if matches!(
         invocation,
         Invocation::Run { .. } | Invocation::Restart { .. }
@@ -110,6 +110,15 @@ pub fn end_with_notes(
         return Status::ConfigurationFault;
     }
     status
+}
+
+/// Writes the notes of the files at these paths, which were checked and have no fault, as `check` writes them. If there is no
+/// memory for them, there are none.
+pub fn write_start_notes(files: &Files<'_>, alloc: Global, paths: &Paths) {
+    let _ = write(
+        files.runtime(),
+        notes_at(files, alloc, paths, true, NotesWanted::All),
+    );
 }
 
 /// Whether a command reads files again for notes.
