@@ -79,7 +79,7 @@ impl DestSlots {
     }
 
     /// Notes what waits in the files of each destination, as far as it is counted. No other thread is there.
-    pub(crate) fn note_waiting(&self, notes: &[SpoolNotes]) {
+    pub fn note_waiting(&self, notes: &[SpoolNotes]) {
         for (slot, notes) in self.slots.as_slice().iter().zip(notes) {
             if let Some(left) = slot.try_lock() {
                 left.note_waiting(notes);
