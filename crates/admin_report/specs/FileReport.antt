@@ -5,11 +5,15 @@ use Rattle.admin_report.specs.ReportText.{count_words}
 use Rattle.admin_report.specs.declared.file_report.FileCounts.{FileCounts}
 use Rattle.admin_report.specs.declared.file_report.ReportLine.{ReportLine}
 
--- what waits in a file, a word and a number each
-abbrev pub file_words : FileCounts → List ℕ
+-- a word and a number
+unfoldable pub word_and_number : (word : List ℕ) → ℕ → List ℕ
+word_and_number word n = codes " " ++ word ++ codes " " ++ decimal n
+
+-- what waits in a file
+unfoldable pub file_words : FileCounts → List ℕ
 file_words f =
-    codes " spool_datapoints " ++ decimal f.datapoints ++ codes " spool_bytes " ++ decimal f.bytes
-    ++ codes " spool_age_seconds " ++ decimal f.age
+    word_and_number (codes "spool_datapoints") f.datapoints ++ word_and_number (codes "spool_bytes") f.bytes
+    ++ word_and_number (codes "spool_age_seconds") f.age
 
 -- these words, if something waits
 abbrev pub waiting_words : Option FileCounts → List ℕ

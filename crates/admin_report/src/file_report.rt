@@ -2,7 +2,7 @@
 
 ghost use Rattle.std.specs.Prelude.{◌≡◌, ◌++◌, IfOk, OnOk, OnErr};
 ghost use Rattle.std.specs.String.{string_bytes};
-ghost use Rattle.admin_report.specs.FileReport.{file_words, waiting_words, file_line, file_report};
+ghost use Rattle.admin_report.specs.FileReport.{word_and_number, file_words, waiting_words, file_line, file_report};
 
 use crate::report_text::push_counts;
 use conf_text::Dest;
@@ -79,12 +79,21 @@ fn push_waiting(text: &mut String, file: Option<FileCounts>) -> Result<(), Alloc
 }
 
 /// Adds what waits in a file.
+#[tactic(auto, unfolding(crate::specs::FileReport::file_words))]
 fn push_file(text: &mut String, file: FileCounts) -> Result<(), AllocError>
     ensures { OnOk result (string_bytes text.new ≡ string_bytes text.old ++ file_words file) }
 {
-    write!(
-        text,
-        " spool_datapoints {} spool_bytes {} spool_age_seconds {}",
-        file.datapoints, file.bytes, file.age
-    )
+    push_word(text, "spool_datapoints", file.datapoints)?;
+    push_word(text, "spool_bytes", file.bytes)?;
+    push_word(text, "spool_age_seconds", file.age)
+}
+
+/// Adds a word and a number.
+#[tactic(auto, unfolding(crate::specs::FileReport::word_and_number))]
+fn push_word(text: &mut String, word: &str, number: u64) -> Result<(), AllocError>
+    ensures { OnOk result (string_bytes text.new ≡ string_bytes text.old ++ word_and_number word.now number) }
+{
+    text.push_str(" ")?;
+    text.push_str(word)?;
+    write!(text, " {number}")
 }

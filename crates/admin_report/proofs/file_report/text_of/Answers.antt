@@ -16,8 +16,8 @@ pub loop-line-preserved : goal.loop-line-preserved
 loop-line-preserved c =
     let lines = c.args.lines.now in
     let i = c.loop-line.line-index in
-    let line = c.loop-line-item.result in
-    let is : line ≡ get_or lines i line = c.loop-line-item.is in
+    let line = c.line-item.result in
+    let is : line ≡ get_or lines i line = c.line-item.is in
     c.in_ok-push_line.ensures
     ∙ ap (λ (l : List ℕ). l ++ file_line line) c.loop-line.invariant
     ∙ ap (λ (d : ReportLine). file_report (take i lines) ++ file_line d) is
