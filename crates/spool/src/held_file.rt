@@ -103,9 +103,7 @@ impl HeldFile {
     /// Counts the lines that wait, as far as they are not counted yet.
     pub(crate) fn count_lines(&mut self, piece: &mut [u8]) {
         let start = self.part_start();
-        self.sent
-            .lines
-            .count_to(&self.file, start, self.end, piece);
+        self.sent.lines.count_to(&self.file, start, self.end, piece);
     }
 
     /// What waits in it.
