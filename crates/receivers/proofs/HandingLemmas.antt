@@ -8,12 +8,12 @@ use Rattle.receivers.specs.Handing.{IsHandedBehind, IsHanded, IsHandedEach}
 
 module _ {S T : Type 0} (takes : T → ℕ → S → List ℕ → T → Type 0) where
   pub none-handed : (loop : LoopState S) (taker : T) → IsHandedEach takes loop 0 taker taker
-    unfolding IsHandedEach
+  unfolding IsHandedEach
   none-handed loop taker = refl
 
   one-more : (loop : LoopState S) (token : ℕ) (before between after : T)
       → IsHandedEach takes loop token before between → IsHanded takes loop token between after → IsHandedEach takes loop (suc token) before after
-    unfolding IsHandedEach
+  unfolding IsHandedEach
   one-more loop token before between after so_far one = (between, so_far, one)
 
   -- the loop's connection of this token is still there, and its readers are as they were

@@ -27,7 +27,10 @@ pub(crate) fn end_loop<A: Accept>(
 }
 
 /// Gives the taker each connection that is held, behind the rest of its reader's bytes.
-fn hand_over_each<S: Read + Drop, T: ConnectionTaker<S>>(leaving: &mut LeavingLoop<S>, taker: &mut T)
+fn hand_over_each<S: Read + Drop, T: ConnectionTaker<S>>(
+    leaving: &mut LeavingLoop<S>,
+    taker: &mut T,
+)
     ensures given { IsHandedEach T.takes leaving.old MOST_CONNECTIONS taker.old taker.new }
     ensures log { leaving.new.log ≡ leaving.old.log }
 {

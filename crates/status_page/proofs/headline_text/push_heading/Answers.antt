@@ -11,6 +11,6 @@ returns c =
     let after = c.push_words_in_colour in
     let of_dests : OnOk after.result (string_bytes after.new.text ≡ string_bytes c.args.text.now ++ words_in_colour c.args.now.now.dests.items c.headline_of.result)
     = subst (λ (dests : List DestSnapshot). OnOk after.result (string_bytes after.new.text ≡ string_bytes c.args.text.now ++ words_in_colour dests c.headline_of.result))
-        c.as_slice.ensures.value after.ensures in
+    c.as_slice.ensures.value after.ensures in
     subst (λ (h : Headline). OnOk after.result (string_bytes after.new.text ≡ string_bytes c.args.text.now ++ words_in_colour c.args.now.now.dests.items h))
     c.headline_of.ensures of_dests
