@@ -36,14 +36,21 @@ class Producers(Serving):
         return {it["address"]: it for it in self.json(relay)["producers"]}
 
     def sends(self, relay, sent, wanted, limit=LIMIT):
-        """Sends again and again what a call sends, until the producers are as a condition wants them."""
+        """Sends again and again what a call sends, until the producers are as a condition wants them, and gives them."""
         end = time.monotonic() + limit
         while time.monotonic() < end:
             sent()
-            if wanted(self.found(relay)):
-                return
+            found = self.found(relay)
+            if wanted(found):
+                return found
             time.sleep(0.1)
         self.fail(f"not so: {self.found(relay)}")
+
+    def ends(self, relay):
+        """The relay stops in order, after however many steps."""
+        answer, ran = relay.stop()
+        self.assertEqual((answer, ran.status, ran.err), (b"stopping\n", 0, b""))
+        self.assertIn(ran.out, (b"settled\n", b"sealed 0\n"))
 
     def test_by_address(self):
         """Connections of one address are joined, over all receivers; who sends most comes first."""
@@ -65,9 +72,9 @@ class Producers(Serving):
                 datagrams.sendto(LINE * 10, ("127.0.0.1", relay.udp))
 
             names = ["127.0.0.2", "127.0.0.4", "127.0.0.6", "127.0.0.3", "127.0.0.5"]
-            self.sends(relay, send, lambda found: list(found) == names)
-            found = self.found(relay)
-            self.assertEqual([it["connections"] for it in found.values()], [3, 1, 0, 1, 1])
+            held = [3, 1, 0, 1, 1]
+            found = self.sends(relay, send, lambda found: list(found) == names
+                               and [it["connections"] for it in found.values()] == held)
             self.assertEqual([it["bad_per_second"] > 0 for it in found.values()], [False, True, False, False, False])
             self.assertEqual([it["datapoints_per_second"] > 0 for it in found.values()], [True, False, True, True, False])
             self.assertEqual([found["127.0.0.5"][name] for name in RATES], [0, 0, 0])
@@ -79,7 +86,7 @@ class Producers(Serving):
             self.assertNotIn("127.0.0.2", self.ask(relay, "/metrics")[2])
             self.assertNotIn("a.b", page)
             still.sendall(LINE)
-            self.settles(relay)
+            self.ends(relay)
 
     def test_the_rate(self):
         """All that came is in the rates, once: also that of connections that have ended."""
@@ -92,14 +99,14 @@ class Producers(Serving):
                         stream.sendall(LINE * 25)
                     sent.append(time.monotonic())
 
-            self.sends(relay, send, lambda found: len(sent) == 40 and found.get("127.0.0.9", {}).get("connections") == 0)
+            found = self.sends(relay, send, lambda found: len(sent) == 40 and found.get("127.0.0.9", {}).get("connections") == 0)
             # Within the time of the rates the whole of them counts a thousand datapoints; later less and less.
-            rate = self.found(relay)["127.0.0.9"]
+            rate = found["127.0.0.9"]
             self.assertLessEqual(rate["datapoints_per_second"], 1000)
             self.assertGreaterEqual(rate["datapoints_per_second"] * 2 * WINDOW, 25)
             self.assertAlmostEqual(rate["bytes_per_second"] / rate["datapoints_per_second"], len(LINE), delta=2)
             self.wait_for(lambda: "127.0.0.9" not in self.found(relay), "it is forgotten")
-            self.settles(relay)
+            self.ends(relay)
 
     def test_more_than_are_shown(self):
         """The greatest are listed, and the others are counted together."""
@@ -108,7 +115,7 @@ class Producers(Serving):
 
             def send():
                 for number, stream in enumerate(streams, 1):
-                    stream.sendall(LINE * 10 * number)
+                    stream.sendall(LINE * number)
 
             greatest = [f"127.0.1.{number}" for number in range(SHOWN + 10, 10, -1)]
             self.sends(relay, send, lambda found: list(found) == greatest)
@@ -116,7 +123,7 @@ class Producers(Serving):
             self.assertEqual(others["addresses"], 10)
             self.assertGreater(others["datapoints_per_second"], 0)
             self.assertIn("<td>others", self.ask(relay, "/")[2])
-            self.settles(relay)
+            self.ends(relay)
 
     def test_many_addresses(self):
         """Datagrams of more addresses than are told apart: what comes from the rest is counted all the same."""
@@ -136,7 +143,7 @@ class Producers(Serving):
             self.assertGreater(others["addresses"], 1000)
             self.assertGreater(others["datapoints_per_second"], 100)
             stack.close()
-            self.settles(relay)
+            self.ends(relay)
 
     def test_after_a_reload(self):
         """Connections go on, and so does the time for which they are there."""
@@ -151,7 +158,7 @@ class Producers(Serving):
             self.sends(relay, send, lambda found: found.get("127.0.0.7", {}).get("connected_seconds", 0) >= 5)
             self.assertEqual(self.found(relay)["127.0.0.7"]["connections"], 1)
             stack.close()
-            self.settles(relay)
+            self.ends(relay)
 
     def test_nobody_looks(self):
         """Without a status server nothing is counted by address, and the relay works as before."""
@@ -161,4 +168,4 @@ class Producers(Serving):
             relay.lines(LINE * 100)
             relay.datagram(LINE)
             self.wait_for(lambda: len(store.lines()) == 101, "all came")
-            self.settles(relay)
+            self.ends(relay)

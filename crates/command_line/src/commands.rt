@@ -122,17 +122,17 @@ pub(crate) static ROUTE: CommandWords = CommandWords {
         },
         Word {
             name: "rules",
-            form: Form::ValueWith("FILE", "config"),
+            form: Form::ValueWithout("FILE", "admin"),
             help: "The relay rules; RELAY_METHOD = rules needs them",
         },
         Word {
             name: "rewrite",
-            form: Form::ValueWith("FILE", "config"),
+            form: Form::ValueWithout("FILE", "admin"),
             help: "The rewrite rules; without them no name changes",
         },
         Word {
             name: "longest-name",
-            form: Form::ValueWith("N", "config"),
+            form: Form::ValueWithout("N", "admin"),
             help: "Drops datapoints whose names have more than N characters, 1 to 4000",
         },
     ],
@@ -144,7 +144,7 @@ pub(crate) static ROUTE: CommandWords = CommandWords {
         },
         Word {
             name: "admin-key",
-            form: Form::ValueWith("FILE", "admin"),
+            form: Form::ValueWithout("FILE", "config"),
             help: "A file of mode 600 or 640 whose first line is the key of the admin port",
         },
         Word {

@@ -43,6 +43,8 @@ pub(crate) enum Form {
     ValueOr(&'static str, &'static str),
     /// `--name N`, where the option of this name is given too.
     ValueWith(&'static str, &'static str),
+    /// `--name N`, where the option of this name is not given.
+    ValueWithout(&'static str, &'static str),
     /// `--name N`, which the help does not show.
     HiddenValue(&'static str),
     /// `N`.
@@ -135,6 +137,9 @@ impl Word {
             }
             Form::ValueWith(value, other) => {
                 arg.long(long).value_name(value).requires_arg(other)
+            }
+            Form::ValueWithout(value, other) => {
+                arg.long(long).value_name(value).conflicts_with(other)
             }
             Form::HiddenValue(value) => Ok(arg.long(long).value_name(value).hide(true)),
             Form::Bare(value) => Ok(arg.value_name(value)),

@@ -44,15 +44,21 @@ impl ProducerTable {
 
     /// This came from an address.
     pub(crate) fn add(&mut self, address: IpAddr, counts: ProducerCounts) {
-        match self.find(address) {
-            Some(producer) => producer.counts = producer.counts.with(counts),
-            None => self.others = self.others.with(counts),
+        let Some(place) = self.place_of(address) else {
+            self.others = self.others.with(counts);
+            return;
+        };
+        if let Some(producer) = self.producers.get_mut(place) {
+            producer.counts = producer.counts.with(counts);
         }
     }
 
     /// A connection of this address is open, which was taken at these milliseconds.
     pub(crate) fn add_connection(&mut self, address: IpAddr, since: u64) {
-        if let Some(producer) = self.find(address) {
+        let Some(place) = self.place_of(address) else {
+            return;
+        };
+        if let Some(producer) = self.producers.get_mut(place) {
             producer.connections = producer.connections.saturating_add(1);
             producer.since = producer.since.min(since);
         }
@@ -72,18 +78,16 @@ impl ProducerTable {
         }
     }
 
-    /// The producer of an address, which is new if it was not there; `None` if there is no room for it.
-    fn find(&mut self, address: IpAddr) -> Option<&mut Producer> {
-        let place = self.place_of(address)?;
-        self.last = place;
-        self.producers.get_mut(place)
+    /// The place of the producer of an address, which is new if it was not there; `None` if there is no room for it.
+    fn place_of(&mut self, address: IpAddr) -> Option<usize> {
+        if !self.is_at(self.last, address) {
+            self.last = self.place_by_slots(address)?;
+        }
+        Some(self.last)
     }
 
-    /// Its place.
-    fn place_of(&mut self, address: IpAddr) -> Option<usize> {
-        if self.is_at(self.last, address) {
-            return Some(self.last);
-        }
+    /// The place of a producer that was not found last.
+    fn place_by_slots(&mut self, address: IpAddr) -> Option<usize> {
         let mut slot = slot_of(address);
         for _ in 0..MOST_STEPS {
             let number = usize::from(self.slots.get(slot).copied().unwrap_or(0));

@@ -188,13 +188,16 @@ fn joined(alloc: Global, all: &[Producer]) -> Result<Vec<Producer>, AllocError> 
     let mut joined: Vec<Producer> = Vec::new(alloc);
     for producer in all {
         let place = joined.len().saturating_sub(1);
-        match joined.get_mut(place) {
-            Some(last) if last.address == producer.address => {
-                last.counts = last.counts.with(producer.counts);
-                last.connections = last.connections.saturating_add(producer.connections);
-                last.since = last.since.min(producer.since);
-            }
-            _ => joined.push(*producer)?,
+        let is_there = match joined.get(place) {
+            Some(last) => last.address == producer.address,
+            None => false,
+        };
+        if !is_there {
+            joined.push(*producer)?;
+        } else if let Some(last) = joined.get_mut(place) {
+            last.counts = last.counts.with(producer.counts);
+            last.connections = last.connections.saturating_add(producer.connections);
+            last.since = last.since.min(producer.since);
         }
     }
     Ok(joined)
