@@ -89,7 +89,8 @@ impl Connections {
     pub(crate) fn note_piece(&self, length: usize, before: Progress) {
         // The receiver's thread alone counts them.
         let bytes = self.bytes.load(Ordering::SeqCst);
-        self.bytes.store(bytes.saturating_add(length as u64), Ordering::SeqCst);
+        self.bytes
+            .store(bytes.saturating_add(length as u64), Ordering::SeqCst);
         if !self.wants_example.load(Ordering::SeqCst) {
             return;
         }

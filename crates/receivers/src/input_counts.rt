@@ -29,7 +29,10 @@ impl InputCounts {
         let faults = self.faults_since(before);
         let earlier = before.totals.faults;
         ServedInput {
-            datapoints: self.totals.datapoints.saturating_sub(before.totals.datapoints),
+            datapoints: self
+                .totals
+                .datapoints
+                .saturating_sub(before.totals.datapoints),
             bad_lines: faults.bad_lines.saturating_sub(earlier.bad_lines),
             bad_pickles: faults.bad_pickles.saturating_sub(earlier.bad_pickles),
             bad_rows: faults.bad_rows.saturating_sub(earlier.bad_rows),

@@ -172,14 +172,15 @@ fn rate_of(counts: ProducerCounts, millis: u64) -> ProducerCounts {
 }
 
 fn scaled(count: u64, millis: u64) -> u64 {
-    count
-        .saturating_mul(1_000 * SCALE)
-        .div_ceil(millis.max(1))
+    count.saturating_mul(1_000 * SCALE).div_ceil(millis.max(1))
 }
 
 /// How great a producer is: its datapoints and its bad input.
 fn weight_of(producer: &Producer) -> u64 {
-    producer.counts.datapoints.saturating_add(producer.counts.bad)
+    producer
+        .counts
+        .datapoints
+        .saturating_add(producer.counts.bad)
 }
 
 /// Each address once, of producers in the order of their addresses.

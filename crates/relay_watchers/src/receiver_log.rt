@@ -2,8 +2,9 @@
 
 use log_lines::{
     InputUnit, LoggedCounts, LoggedExample, LoggedLosses, LoggedReceiver, LoggedRefusals,
-    ProducerWindow, ReceiverCounts, ReceiverNotes, has_bad, has_lost, push_example_line, push_losses_line,
-    push_lost_receiver_line, push_receiver_counts_line, push_receiver_line, push_refusals_line,
+    ProducerWindow, ReceiverCounts, ReceiverNotes, has_bad, has_lost, push_example_line,
+    push_losses_line, push_lost_receiver_line, push_receiver_counts_line, push_receiver_line,
+    push_refusals_line,
 };
 use relay_base::{NoMemory, add};
 use status_page::ReceiverSnapshot;

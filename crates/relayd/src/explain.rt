@@ -151,11 +151,7 @@ fn notes_of_spool(
 }
 
 /// Notes of the names of which a running relay was asked.
-fn notes_of_asked(
-    files: &Files<'_>,
-    alloc: Global,
-    asked: &AskedNames,
-) -> Result<Notes, NoMemory> {
+fn notes_of_asked(files: &Files<'_>, alloc: Global, asked: &AskedNames) -> Result<Notes, NoMemory> {
     match asked {
         AskedNames::Name(name) => notes_of_name(alloc, name),
         AskedNames::File(path) => notes_of_names_at(files, alloc, path),

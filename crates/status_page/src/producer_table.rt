@@ -23,11 +23,7 @@ pub(crate) fn push_producer_table(text: &mut String, now: &Snapshot) -> Result<(
 
 /// Adds a producer.
 fn push_row(text: &mut String, producer: &ProducerSnapshot) -> Result<(), AllocError> {
-    write!(
-        text,
-        "<tr><td>{}",
-        plain_address(producer.address.as_str())
-    )?;
+    write!(text, "<tr><td>{}", plain_address(producer.address.as_str()))?;
     push_rates(text, producer.rates)?;
     text.push_str("<td>")?;
     if producer.connections > 0 {

@@ -5,9 +5,7 @@ use crate::tests::sendings::Sending;
 use crate::tests::supplies::two_lines;
 use mio_loops::{LISTENER, LogInput, ReadTotals, ReadinessFault, SystemTimes, Token};
 use queue_records::{Door, Made};
-use receivers::{
-    Accept, AcceptOutcome, Datagrams, ReceiverRecord, ServedInput, receive_datagrams,
-};
+use receivers::{Accept, AcceptOutcome, Datagrams, ReceiverRecord, ServedInput, receive_datagrams};
 use relay_base::DestId;
 use senders::{Connect, send_batches};
 use std::alloc::Global;
