@@ -22,7 +22,7 @@ class Word(NamedTuple):
     name: str
     form: str
     value: Optional[str]  # what the help calls its value
-    other: Optional[str]  # the option that it needs
+    other: Optional[str]  # the option that it needs, or goes with
     help: str
 
     def is_option(self):
@@ -64,7 +64,17 @@ def word_of(found):
     value, other = (names + [None, None])[:2]
     if form == "FlagWith":
         value, other = None, value
-    return Word(name, form, value, other if form.endswith("With") else None, text)
+    elif form == "ValueOr":  # its default value
+        other = None
+    return Word(name, form, value, other, text)
+
+
+def goes_with(word, choices):
+    """A word that excludes one of a choice goes with the other one."""
+    if word.form != "ValueWithout":
+        return word
+    return word._replace(other=next(first if second == word.other else second for first, second in choices
+                                    if word.other in (first, second)))
 
 
 def words_in(text, constants):
@@ -90,7 +100,8 @@ def commands():
         own = re.search(r"\bfiles: (.*?)\n    words: &\[(.*)\],\n    choices: (.*)", table, re.DOTALL)
         first = files if own[1] == "FILES," else words_in(own[1], constants)
         choices = re.findall(rf"words: \[{STRING}, {STRING}\]", own[3])
-        found.append(Command(name, about, first + words_in(own[2], constants), choices))
+        words = [goes_with(word, choices) for word in first + words_in(own[2], constants)]
+        found.append(Command(name, about, words, choices))
     return found
 
 
