@@ -22,7 +22,7 @@ module _ {S T : Type 0} (takes : T → ℕ → S → List ℕ → T → Type 0) 
       IsHandedBehind loop.readers token (get loop.sources token) before after
 
   -- those of the tokens below a number, one after another, and nothing else
-  pub IsHandedEach : LoopState S → ℕ → T → T → Type 0
+  unfoldable pub IsHandedEach : LoopState S → ℕ → T → T → Type 0
   IsHandedEach loop zero before after = after ≡ before
   IsHandedEach loop (suc token) before after =
       (between : T) × IsHandedEach loop token before between × IsHanded loop token between after
