@@ -72,7 +72,7 @@ class CannotRead(WithFiles):
             path.unlink()
 
     def test_words_that_name_no_file(self):
-        for word in ("", "./-"):
+        for word in ("no-such-file", "./-"):
             for role in ROLES:
                 with self.subTest():
                     words = ("check", f"--{role}={word}", *self.given(RIGHT | {role: None}))
