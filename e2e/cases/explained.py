@@ -593,7 +593,7 @@ class OfPorts(WithRelays):
                     taken.listen()
                 config = self.configuration(["127.0.0.1:1"], ports[:3], RELAY_METHOD="consistent-hashing")
                 words = self.given({"config": config, "rules": None})
-                ran = run(("run", *words, "--admin", str(ports[3]), "--explain"))
+                ran = run(("run", *words, "--longest-name", "1024", "--admin", str(ports[3]), "--explain"))
                 self.assertEqual((ran.status, ran.out), (3, b""))
                 fault, note, cure = ran.err.splitlines()
                 self.assertEqual(fault, b"relayd: listen: %s" % role.encode())
