@@ -51,7 +51,7 @@ impl<'x, R: Wait + Clock + Net + SpoolDisk + Copy + Drop> LineSender<'x, R> {
         times: &T,
         signals: &Signals,
     ) -> SenderRecord<S>
-        ensures ran { SenderEnds (IsHandedBy S.record_of S.may_hand) self.share.dests self.limit result.fault
+        ensures ran { SenderEnds (IsHandedBy S.record_of S.may_hand) self.entry.share.dests self.entry.limit result.fault
             result.logs.items (S.record_of supply) (S.record_of result.outlet) }
         ensures fault { EndsFor result.fault result.logs.items (S.record_of supply)
             (S.record_of result.outlet) }
