@@ -299,8 +299,10 @@ class OfFiles(WithFiles):
 
     def test_a_script_that_is_no_text(self):
         script = self.folder / "script"
-        script.write_bytes(b"reader line\n\xd4\xc3\n")
-        self.explained(("replay", str(script)), {}, ["script line 2: byte 212 at column 1 is not UTF-8"])
+        for text, cure in ((b"reader line\n\xd4\xc3\n", "cure: turn it into UTF-8"),
+                           (b"reader line\n\xd4\xc3\xb2\xa1\x02\0", "cure: give the path of a text file")):
+            script.write_bytes(text)
+            self.explained(("replay", str(script)), {}, ["script line 2: byte 212 at column 1 is not UTF-8", cure])
 
     def test_names_in_utf16(self):
         names = self.folder / "names"
@@ -593,7 +595,7 @@ class OfPorts(WithRelays):
                     taken.listen()
                 config = self.configuration(["127.0.0.1:1"], ports[:3], RELAY_METHOD="consistent-hashing")
                 words = self.given({"config": config, "rules": None})
-                ran = run(("run", *words, "--longest-name", "1024", "--admin", str(ports[3]), "--explain"))
+                ran = run(("run", *LIMITED, *words, "--admin", str(ports[3]), "--explain"))
                 self.assertEqual((ran.status, ran.out), (3, b""))
                 fault, note, cure = ran.err.splitlines()
                 self.assertEqual(fault, b"relayd: listen: %s" % role.encode())

@@ -286,7 +286,7 @@ class Recorded(WithRelays):
             resource.prlimit(relay.child.pid, resource.RLIMIT_FSIZE, (4_096, 4_096))
             answer, ran = relay.stop()
             self.assertEqual(answer, b"stopping\n")
-            fault = f"relayd: record: {self.record}: cannot write: File too large (os error 27)\n"
+            fault = f"relayd: record: {self.record}: cannot write: file too large\n"
             self.same("stop", ran, Ran(3, b"settled\n", fault.encode()), ("run",))
         self.assertEqual(self.record.read_bytes(), b"older")
         self.assertEqual([path.name for path in self.folder.iterdir() if path.name.startswith("record")], ["record"])

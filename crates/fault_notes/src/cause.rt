@@ -93,6 +93,11 @@ impl Cause {
         cure: Some(Cure::GUNZIP),
     };
 
+    pub(crate) const BINARY: Cause = Cause {
+        text: "the file has control bytes, and is no text",
+        cure: Some(Cure::TEXT_FILE),
+    };
+
     pub(crate) const NO_SECTION: Cause = Cause {
         text: "the file is empty, or has comments alone",
         cure: Some(Cure::SECTIONS_AND_KEYS),

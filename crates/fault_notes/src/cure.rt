@@ -33,6 +33,8 @@ impl Cure {
 
     pub(crate) const GUNZIP: Cure = Cure("unpack it: gunzip");
 
+    pub(crate) const TEXT_FILE: Cure = Cure("give the path of a text file");
+
     pub(crate) const ONE_SIGN: Cure = Cure("write one of the two");
 
     pub(crate) const ONE_EQUALS: Cure = Cure(

@@ -3,6 +3,7 @@
 use crate::cause::{Cause, add_cure};
 use crate::cure::Cure;
 use note_text::{EscapedText, Notes};
+use relay_base::is_white;
 
 /// Notes of a file that is not UTF-8 from a byte on.
 pub(crate) fn add_not_text(notes: &mut Notes, path: &str, bytes: &[u8], valid: usize) {
@@ -19,8 +20,19 @@ pub(crate) fn add_not_text(notes: &mut Notes, path: &str, bytes: &[u8], valid: u
 fn cause_of_bytes(bytes: &[u8]) -> Option<Cause> {
     match bytes {
         [0x1f, 0x8b, ..] => Some(Cause::GZIP),
-        _ => is_utf16(bytes).then_some(Cause::UTF16),
+        _ if is_utf16(bytes) => Some(Cause::UTF16),
+        _ => has_control(bytes).then_some(Cause::BINARY),
     }
+}
+
+/// Whether bytes have one that no text has: a control byte that is no white space.
+fn has_control(bytes: &[u8]) -> bool {
+    for byte in bytes {
+        if *byte < b' ' && !is_white(*byte) && *byte != b'\n' {
+            return true;
+        }
+    }
+    false
 }
 
 /// Whether a file begins like one that is UTF-16.

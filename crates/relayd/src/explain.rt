@@ -185,7 +185,7 @@ pub fn write(rt: &HostRuntime, notes: Result<Notes, NoMemory>) -> bool {
 }
 
 /// The notes of the files at these paths, which are read again: of their first fault, or, if they have none, of what they
-/// may not intend.
+/// may not intend; a run and a restart have had those.
 fn notes_of(
     files: &Files<'_>,
     alloc: Global,
@@ -193,8 +193,21 @@ fn notes_of(
     paths: &Paths,
     wanted: NotesWanted,
 ) -> Result<Notes, NoMemory> {
-    let is_check = matches!(invocation, Invocation::Check { .. });
-    notes_at(files, alloc, paths, is_check, wanted)
+    match invocation {
+        Invocation::Run { .. } | Invocation::Restart { .. } => {
+            let read = RereadFiles::new(files, alloc, paths)?;
+            let notes = notes_of_fault(alloc, &read.sources())?;
+            drop(read);
+            match notes {
+                Some(notes) => Ok(notes),
+                None => Ok(Notes::new(alloc)),
+            }
+        }
+        _ => {
+            let is_check = matches!(invocation, Invocation::Check { .. });
+            notes_at(files, alloc, paths, is_check, wanted)
+        }
+    }
 }
 
 /// The notes of the files of a running relay, as `check` writes them, if this user may read them.
