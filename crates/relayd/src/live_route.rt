@@ -122,7 +122,8 @@ impl WritesNames for LiveRoutes<'_> {
         let name = Name::read(self.alloc, name)?;
         let answer = self.answer(name.text().as_bytes())?;
         let Some(said) = route_answer_in(answer.as_slice()) else {
-            unreachable!()
+            // The client has read this answer, and found that it is one.
+            return Err(RelayFault::Input);
         };
         let text = self.text_of(name.text(), said)?;
         write_all(output, text.as_str().as_bytes())?;
