@@ -101,7 +101,8 @@ fn check_path(
     match options.get_str(word.name) {
         Some("") => {
             let message = format!(in alloc;
-                "invalid value '' for '--{} <{kind}>': an empty path", word.name
+                "invalid value '' for '--{} <{kind}>': an empty path",
+                word.name
             )?;
             Err(command.error(alloc, ErrorKind::InvalidValue, message.as_str())?)
         }

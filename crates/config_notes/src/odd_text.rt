@@ -99,7 +99,9 @@ pub(crate) fn odd_rule(pattern: &str, replacement: &str) -> Option<&'static str>
     if replacement.is_empty() && WHOLE_NAMES.contains(&pattern) {
         Some("the rule drops every name")
     } else if pattern.is_empty() && !replacement.is_empty() {
-        Some("the rule has no pattern, so it puts its replacement between all letters of every name")
+        Some(
+            "the rule has no pattern, so it puts its replacement between all letters of every name",
+        )
     } else {
         None
     }

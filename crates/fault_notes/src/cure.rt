@@ -37,7 +37,9 @@ impl Cure {
 
     pub(crate) const ONE_SIGN: Cure = Cure("write one of the two");
 
-    pub(crate) const ONE_EQUALS: Cure = Cure("write one of the two, or \\x3d for one in the pattern");
+    pub(crate) const ONE_EQUALS: Cure = Cure(
+        "write one of the two, or \\x3d for one in the pattern",
+    );
 
     pub(crate) const DELETE_WHITE: Cure = Cure("delete it: no metric name has any");
 
@@ -47,9 +49,13 @@ impl Cure {
         "give sections with pattern and destinations, as in examples/relay-rules.conf",
     );
 
-    pub(crate) const FIRST_FIELDS: Cure = Cure("keep the first field of each line: cut -d ' ' -f 1");
+    pub(crate) const FIRST_FIELDS: Cure = Cure(
+        "keep the first field of each line: cut -d ' ' -f 1",
+    );
 
-    pub(crate) const ALTERNATIVES: Cure = Cure("write (a|b) for {a,b}, and \\{ for the character itself");
+    pub(crate) const ALTERNATIVES: Cure = Cure(
+        "write (a|b) for {a,b}, and \\{ for the character itself",
+    );
 
     pub(crate) const COMMA_FOR_SEMICOLON: Cure = Cure("write a comma for `;`");
 

@@ -12,7 +12,8 @@ use std::{io, mem};
 const MOST_NOTES: u64 = 100;
 
 /// What is read.
-const FORM: &str = "cure: write pickle.dumps(rows, 2), where rows is [(name, (time, value)), ..] of texts and numbers";
+const FORM: &str =
+    "cure: write pickle.dumps(rows, 2), where rows is [(name, (time, value)), ..] of texts and numbers";
 
 /// How many bytes the length before a pickle has.
 const LENGTH_BYTES: usize = 4;
@@ -155,7 +156,9 @@ impl FrameWatch {
         match bytes {
             [0x80, ..] => notes.add("a pickle begins there, without the four bytes of its length"),
             [_, _, 0..=15, 0, ..] => {
-                notes.add("the length may begin with its least significant byte, and the most significant comes first")
+                notes.add(
+                    "the length may begin with its least significant byte, and the most significant comes first",
+                )
             }
             [b' '..=b'~', b' '..=b'~', b' '..=b'~', b' '..=b'~', ..] => {
                 notes.add("lines may begin there, which relayd pass reads without --pickle")
