@@ -194,19 +194,21 @@ fn notes_of(
     wanted: NotesWanted,
 ) -> Result<Notes, NoMemory> {
     match invocation {
-        Invocation::Run { .. } | Invocation::Restart { .. } => {
-            let read = RereadFiles::new(files, alloc, paths)?;
-            let notes = notes_of_fault(alloc, &read.sources())?;
-            drop(read);
-            match notes {
-                Some(notes) => Ok(notes),
-                None => Ok(Notes::new(alloc)),
-            }
-        }
+        Invocation::Run { .. } | Invocation::Restart { .. } => fault_notes_at(files, alloc, paths),
         _ => {
             let is_check = matches!(invocation, Invocation::Check { .. });
             notes_at(files, alloc, paths, is_check, wanted)
         }
+    }
+}
+
+/// The notes of the first fault of the files at these paths, if they have one.
+fn fault_notes_at(files: &Files<'_>, alloc: Global, paths: &Paths) -> Result<Notes, NoMemory> {
+    let read = RereadFiles::new(files, alloc, paths)?;
+    let sources = read.sources();
+    match notes_of_fault(alloc, &sources)? {
+        Some(notes) => Ok(notes),
+        None => Ok(Notes::new(alloc)),
     }
 }
 
