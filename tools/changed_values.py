@@ -5,7 +5,7 @@
 
 A table is a file of `e2e/fixtures/`; a value is a text, some bytes or a number that stands in it. For each one there is a
 copy of `e2e/` in which it is another, and the cases that read the table run there. Each change that none of them notices is
-printed; the status is 0 if there is none. All tables take about half an hour of four processors.
+printed; the status is 0 if there is none. All tables take some minutes.
 """
 
 import argparse
@@ -26,7 +26,7 @@ sys.dont_write_bytecode = True
 from fixtures import program
 
 ROWS = "worked_rows"
-CASES = {"notes": ("explained",), "decimals": ("values", "lines", "python_pickles")}  # the cases that read a table
+CASES = {"notes": ("explained.OfWholeFiles",)}  # the cases that read a table
 AT_ONCE = os.cpu_count() or 1
 LIMIT = 600  # seconds that the cases of one change may take
 
