@@ -1,4 +1,4 @@
-# Completion of the command lines of relayd and relayd-supervised for bash. The e2e case `completion` holds it against `relayd -h`.
+# Completion of relayd's command line for bash. `python3 tools/command_pages.py` makes it from the command line's tables.
 
 # Files that begin so; bash quotes them, and writes a slash after a folder.
 _relayd_files() {
@@ -20,19 +20,19 @@ _relayd() {
         return
     fi
     case $before in
-        --config|--rules|--rewrite|--names|--lines|--record|--spool|--admin-key)
+        --moment|--longest-name|--admin|--idle|--drain|--status|--status-interface)
+            return ;;
+        --config|--rules|--rewrite|--spool|--names|--lines|--admin-key|--record)
             _relayd_files "$word"
-            return ;;
-        --admin|--longest-name|--moment|--drain|--idle|--status|--status-interface)
-            return ;;
-        --log-format)
-            mapfile -t COMPREPLY < <(compgen -W "text timed json" -- "$word")
             return ;;
         --senders)
             mapfile -t COMPREPLY < <(compgen -W "1 2 3 4 5 6 7 8" -- "$word")
             return ;;
         --line-receivers)
             mapfile -t COMPREPLY < <(compgen -W "1 2 3 4 5 6" -- "$word")
+            return ;;
+        --log-format)
+            mapfile -t COMPREPLY < <(compgen -W "text timed json" -- "$word")
             return ;;
     esac
     local options
@@ -41,8 +41,7 @@ _relayd() {
         check) options="--config --rules --rewrite --longest-name --spool --explain --strict --json" ;;
         route) options="--config --rules --rewrite --longest-name --names --explain --strict --json" ;;
         replay) options="--config --rules --rewrite --longest-name --lines --text --explain --strict" ;;
-        run)
-            options="--config --rules --rewrite --longest-name --admin --admin-key --senders --line-receivers --idle --drain --spool --status --status-interface --log --log-format --record --explain" ;;
+        run) options="--config --rules --rewrite --longest-name --admin --admin-key --senders --line-receivers --idle --drain --spool --status --status-interface --log --log-format --record --explain" ;;
         report) options="--admin --admin-key --json" ;;
         stop) options="--admin --admin-key --wait" ;;
         restart) options="--config --rules --rewrite --longest-name --explain --admin --admin-key" ;;
@@ -52,7 +51,7 @@ _relayd() {
             return ;;
         *) return ;;
     esac
-    if [ "$command" = replay ] && [[ $word != -* ]]; then
+    if [[ $command == @(replay) && $word != -* ]]; then
         _relayd_files "$word"
     else
         mapfile -t COMPREPLY < <(compgen -W "$options -h --help" -- "$word")

@@ -3,6 +3,8 @@
 import os
 import re
 import shutil
+import subprocess
+import sys
 
 from fixtures import completed, configured, harness
 from fixtures.program import TOP
@@ -29,6 +31,12 @@ def options(*words):
 
 class Completion(harness.Suite):
     """What each shell offers."""
+
+    def test_all_are_made_from_the_tables_of_the_command_line(self):
+        """The completions, the synopses, and the commands beside each option of the man page."""
+        ran = subprocess.run([sys.executable, os.path.join("tools", "command_pages.py"), "--check"], cwd=TOP,
+                             stdout=subprocess.PIPE, stderr=subprocess.STDOUT, text=True, check=False)
+        self.assertEqual((ran.returncode, ran.stdout), (0, ""))
 
     def offers(self, *words, **how):
         """For each shell that is there, its name and what it offers."""
