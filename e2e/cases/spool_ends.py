@@ -19,6 +19,7 @@ PART = 16 * 1_048_576               # bytes of a file that go out on one connect
 PARTS = numbered(160_000, b"p" * 200)  # two parts and some
 AT_ONCE = 0.5                       # seconds; the tries of a destination begin a whole one apart
 LONGEST_END = 5.0                   # seconds that a store may take to end a connection
+PATIENCE = 8.0                      # seconds; a system with less patience has given up what it has for a store by then
 FOREVER = "3600"                    # seconds: for so long no case waits
 OVERLONG = b"o" * 17_000 + b" 1 1700000000"
 AGAIN = b"lines may come twice"
@@ -269,6 +270,7 @@ class NoEnd(WithEnds):
         with self.spooling([dest]) as relay:
             self.system_has_all(store.port)
             self.wait_for(lambda: self.files() == [], "the file is gone")
+            time.sleep(PATIENCE)
             store.read_on()
             self.is_sent(relay, store, FILE)
             self.settles(relay)

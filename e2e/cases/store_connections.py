@@ -27,6 +27,7 @@ FEW = 500                    # of them: they fit the room for what is sent, and 
 LINES = [b"%s.%d %d 1700000000" % (b"n" * 220, number, number) for number in range(COUNT)]
 READ_AWAY = 16 * 1_048_576   # bytes
 ENDING = 1.0                 # seconds that a store may take to read to the end once the relay is stopped
+PATIENCE = 8.0               # seconds; a system with less patience has given up what it has for a store by then
 
 
 def text_of(lines):
@@ -161,6 +162,23 @@ class Itself(WithRelays):
         except OSError:
             return False
         return True
+
+
+class StandsStill(WithRelays):
+    """A store that reads nothing for a while."""
+
+    def test_it_reads_on_later(self):
+        """It gets what the system had for it when the relay ended, though it read nothing for seconds."""
+        store, = self.stores(1, reads=False, room=4096)
+        dest = f"127.0.0.1:{store.port}"
+        lines = LINES[:FEW]
+        with self.relay([dest], ALL.format(dest)) as relay:
+            relay.lines(text_of(lines))
+            self.wait_for(lambda: relay.totals()["taken"] == FEW, "the lines are taken")
+            self.settles(relay)
+        time.sleep(PATIENCE)
+        store.read_on()
+        self.wait_for(lambda: store.lines() == lines, "all lines have come")
 
 
 class Talking(WithRelays):
