@@ -9,7 +9,8 @@ and without room on the disk, kills and starts, with and without --spool, drawn 
 destination has come to its store once, in order, or is in a file of the spool, or was counted as dropped or not sent; it may
 be missing too where a connection was lost or the relay was killed, and come twice only from a file. The first form plays
 the histories of N seeds, some at once, and prints each that has a fault with its steps; the second plays one and prints its
-steps as they begin. The status is 0 only where no history has a fault. As root the spool has a small file system of its own.
+steps as they begin. The status is 0 only where no history has a fault. As root a history has a network of its own, and its
+spool a small file system.
 """
 
 import argparse
@@ -20,6 +21,7 @@ sys.dont_write_bytecode = True  # the folder stays as it was checked out
 
 from fixtures import harness, histories
 from fixtures.history_plan import Plan
+from fixtures.networks import enter_own_network
 
 
 def words():
@@ -35,6 +37,7 @@ def words():
 
 def play_one(seed):
     """Plays a history, prints its steps and faults, and gives the status."""
+    enter_own_network()  # others that play at once have ports out of the same range
     plan = Plan(seed)
     print(f"seed {seed}: {plan}", flush=True)
     faults = histories.play(plan, lambda text: print(text, flush=True))
