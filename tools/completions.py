@@ -159,7 +159,7 @@ def in_brackets(text):
 
 
 def zsh_option(word):
-    """What zsh is told of an option."""
+    """What the completion for zsh says of an option."""
     told = f"[{in_brackets(word.help)}]"
     if word.value is None:
         return f"'--{word.name}{told}'"
@@ -168,7 +168,7 @@ def zsh_option(word):
 
 
 def zsh_bare(word):
-    """What zsh is told of a word that has no name before it."""
+    """What the completion for zsh says of a word without a name before it."""
     return f"'1:{word.value.lower()}:{'_files' if takes_files(word) else ''}'"
 
 
@@ -190,7 +190,7 @@ def fish_text(text):
 
 
 def fish_value(word):
-    """What fish is told of the value of an option."""
+    """What the completion for fish says of the value of an option."""
     if word.value is None:
         return ""
     if word.value == "FILE":
@@ -200,7 +200,7 @@ def fish_value(word):
 
 
 def fish_options():
-    """A line for each option, of the commands that tell the same of it."""
+    """A line for each option, for all commands whose help says the same of it."""
     takers = {}
     for command in commands():
         for word in command.options():
