@@ -2,7 +2,7 @@
 # make quick      builds bin/relayd-quick within minutes, with no proof: to try an edit with; nothing is made of it
 # make demo       runs bin/relayd, or the quick program where that is not up to date, on metrics and a configuration
 # make check      proves all crates, over the work that earlier runs kept
-# make test       the gate `rt ci`, then the end-to-end tests
+# make test       the gate `rt ci`, then the end-to-end tests, whose Debian packages it installs
 # make quick-test what to run before a commit: the quick program, the layout of all sources, and its end-to-end tests
 # make e2e        the end-to-end tests alone; CASES='NAME ..': some of them
 # make hostile    the cases of hostile use in their longer form, and 200 random histories
@@ -17,6 +17,7 @@
 # make tarball    builds an archive that runs from any folder, in bin/
 # make release-check says whether this commit may get the tag of its version
 # make clean      removes what was built
+# make help       prints this
 #
 # PROGRAM=bin/relayd-quick has e2e, hostile and bench take the quick program, which is built first; PROGRAM=PATH another.
 
@@ -36,7 +37,7 @@ PROGRAM ?= bin/relayd
 of_program := $(if $(filter bin/relayd-quick,$(PROGRAM)),quick,$(filter bin/relayd,$(PROGRAM)))
 driven := $(if $(filter-out bin/relayd,$(PROGRAM)),--relayd $(PROGRAM))
 
-.PHONY: build quick demo check test quick-test e2e hostile edits bench install deb deb-test tarball image notices release-check clean
+.PHONY: build quick demo check test quick-test e2e hostile edits bench install deb deb-test tarball image notices release-check clean help
 
 build: bin/relayd
 
@@ -150,3 +151,6 @@ release-check:
 
 clean:
 	rm -rf bin bench/data crates/*/out
+
+help:
+	@sed -n '/^#/!q; s/^# \{0,1\}//p' Makefile

@@ -19,9 +19,10 @@ later. `queued`, which carbon does not have, is what waits now, and so is `relay
 With --status it also asks the relay's status server, on this machine, and writes what the report does not have. Of the
 relay, as carbon does: `metricsReceived` since the last turn, `activeConnections` now, `cpuUsage`, in percent of one
 processor since the last turn, and `memUsage`, in bytes. And as it is now: for a destination `connected` (0 or 1),
-`connectionLosses` and `failedTries` since the start, `stalledSeconds` and `oldestQueuedMilliseconds`; for a receiver,
-under `receivers.line`, `receivers.line_1` or the like, `open` (0 or 1), `connections`, and since the start `datapoints`,
-`rejected`, `refused` and `lost`.
+`connectionLosses` and `failedTries` since the start, `stalledSeconds` and `oldestQueuedMilliseconds`, and
+`spoolDatapoints` and `spoolBytes`, what waits in its file, `spoolAgeSeconds`, since when it was not written, and
+`spoolDatapointsPerSecond`, how fast it goes out; for a receiver, under `receivers.line`, `receivers.line_1` or the
+like, `open` (0 or 1), `connections`, and since the start `datapoints`, `rejected`, `refused` and `lost`.
 
 --prefix is carbon's CARBON_METRIC_PREFIX, and with --instance the machine's name is followed by `-` and that, as for an
 instance of carbon.
@@ -40,10 +41,12 @@ import sys
 import time
 import urllib.request
 
-LINE = re.compile(r"destination (\S+) queued (\d+) offered (\d+) kept (\d+) dropped (\d+) taken (\d+)")
+LINE = re.compile(r"destination (\S+) queued (\d+) offered (\d+) kept (\d+) dropped (\d+) taken (\d+)(?: \w+ \d+)*")
 COUNTED = {"offered": "attemptedRelays", "taken": "sent", "dropped": "fullQueueDrops"}
 DEST_STATUS = {"connected": "connected", "connection_losses": "connectionLosses", "failed_tries": "failedTries",
-               "stalled_seconds": "stalledSeconds", "oldest_queued_milliseconds": "oldestQueuedMilliseconds"}
+               "stalled_seconds": "stalledSeconds", "oldest_queued_milliseconds": "oldestQueuedMilliseconds",
+               "spool_datapoints": "spoolDatapoints", "spool_bytes": "spoolBytes", "spool_age_seconds": "spoolAgeSeconds",
+               "spool_datapoints_per_second": "spoolDatapointsPerSecond"}
 REJECTED = ("bad_lines", "bad_pickles", "bad_rows", "bad_names")
 LOST = ("overlong", "unfinished", "idle", "memory_short", "broken", "system_drop")
 PROCESS = re.compile(r"^process_(cpu_seconds_total|resident_memory_bytes|start_time_seconds) (\S+)$", re.MULTILINE)
@@ -175,7 +178,7 @@ def relay_lines_of(relay, before, prefix, moment):
 def status_lines_of(status, prefix, moment):
     """The lines of what the status server says."""
     values = [(f"destinations.{carbon_name(it['destination'])}.{key}", int(it[member]))
-              for it in status["destinations"] for member, key in DEST_STATUS.items()]
+              for it in status["destinations"] for member, key in DEST_STATUS.items() if member in it]
     for it in status["receivers"]:
         name = f"receivers.{it['receiver'].replace(' ', '_')}"
         values += [(f"{name}.open", int(it["state"] == "open"))]

@@ -192,7 +192,8 @@ def looks_right(to, checks):
     checks.that("it brings its pages and examples", set(to.files()) >= {DOC + path for path in SPOKEN_OF}, to.files())
     to.make_state()
     checks.run("its configuration has no fault, and nothing is noted of it",
-               to.run("/bin/sh", "-c", to.words_of("ExecStartPre"), **to.variables()), "ok 3 destinations\n")
+               to.run("/bin/sh", "-c", "relayd check --config /etc/relayd/relay.conf $FILES --longest-name 1024 --explain",
+                      **to.variables()), "ok 3 destinations\n")
     for path in CONFIGURATION:
         with open(to.path(path), encoding="utf-8") as file:
             checks.that(f"{path} begins with a comment", file.read(2) == "# ")

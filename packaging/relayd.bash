@@ -22,7 +22,7 @@ _relayd() {
     case $before in
         --moment|--longest-name|--admin|--idle|--drain|--status|--status-interface)
             return ;;
-        --config|--rules|--rewrite|--spool|--names|--lines|--admin-key|--record)
+        --config|--rules|--rewrite|--spool|--admin-key|--names|--lines|--record)
             _relayd_files "$word"
             return ;;
         --senders)
@@ -39,7 +39,7 @@ _relayd() {
     case $command in
         pass) options="--explain --strict --pickle --moment" ;;
         check) options="--config --rules --rewrite --longest-name --spool --explain --strict --json" ;;
-        route) options="--config --rules --rewrite --longest-name --names --explain --strict --json" ;;
+        route) options="--config --rules --rewrite --longest-name --admin --admin-key --names --explain --strict --json" ;;
         replay) options="--config --rules --rewrite --longest-name --lines --text --explain --strict" ;;
         run) options="--config --rules --rewrite --longest-name --admin --admin-key --senders --line-receivers --idle --drain --spool --status --status-interface --log --log-format --record --explain" ;;
         report) options="--admin --admin-key --json" ;;

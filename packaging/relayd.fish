@@ -38,6 +38,8 @@ complete -c relayd -n '__relayd_command check' -l spool -x -a '(__fish_complete_
 complete -c relayd -n '__relayd_command check route replay run restart reload' -l explain -d 'Writes notes to standard error: where a fault is and how to cure it, or what may be a mistake'
 complete -c relayd -n '__relayd_command check' -l strict -d 'With --explain: exits with status 1 if there is a note'
 complete -c relayd -n '__relayd_command check' -l json -d 'With --explain: prints the notes, an object of JSON a line'
+complete -c relayd -n '__relayd_command route' -l admin -x -d 'Asks the running relay with this admin port instead, 1 to 65535'
+complete -c relayd -n '__relayd_command route run report stop restart reload' -l admin-key -r -F -d 'A file of mode 600 or 640 whose first line is the key of the admin port'
 complete -c relayd -n '__relayd_command route' -l names -r -F -d 'A file of names, one per line, instead of NAME'
 complete -c relayd -n '__relayd_command route replay' -l strict -d 'Exits with status 1 if a line or a name is bad, or a name is dropped or goes nowhere'
 complete -c relayd -n '__relayd_command route report' -l json -d 'Prints an object of JSON a line'
@@ -45,7 +47,6 @@ complete -c relayd -n '__relayd_command replay' -l lines -r -F -d 'A file of dat
 complete -c relayd -n '__relayd_command replay' -l text -d 'Also shows as text what each destination got'
 complete -c relayd -n '__relayd_command replay' -F
 complete -c relayd -n '__relayd_command run' -l admin -x -d 'The port on 127.0.0.1 for report, stop, restart and reload, 1 to 65535'
-complete -c relayd -n '__relayd_command run report stop restart reload' -l admin-key -r -F -d 'A file of mode 600 or 640 whose first line is the key of the admin port'
 complete -c relayd -n '__relayd_command run' -l senders -x -a '1 2 3 4 5 6 7 8' -d 'The number of threads that send, 1 to 8'
 complete -c relayd -n '__relayd_command run' -l line-receivers -x -a '1 2 3 4 5 6' -d 'The number of threads that receive lines, 1 to 6'
 complete -c relayd -n '__relayd_command run' -l idle -x -d 'Closes a connection that sends no datapoint for SECONDS, 0 to 86400; 0 closes none'

@@ -31,68 +31,57 @@ LAST_LINES = r""".B relayd help
 
 
 def parts(command):
-    """What a command takes, in order: an option with those that need it, or the two of which one has to be given."""
-    alone = [word for word in command.words if word.name not in command.choice and word.is_option() and not word.other]
-    for word in alone:
-        yield word, [other for other in command.options() if other.other == word.name]
+    """What a command takes, in order: lists of words of which one is given. A choice with a word that has no name comes last."""
+    places = {word.name: word for word in command.words}
+    choices = [[places[name] for name in pair] for pair in command.choices]
+    last = [sorted(choice, key=lambda word: word.is_option()) for choice in choices
+            if not all(word.is_option() for word in choice)]
+    for word in command.options():
+        of_word = [choice for choice in choices if word in choice]
+        if not of_word and not word.other:
+            yield [word]
+        elif of_word and of_word[0][0] == word and all(each.is_option() for each in of_word[0]):
+            yield of_word[0]
+    yield from last
 
 
-def chosen(command):
-    """The two words of which one has to be given: the one without a name first."""
-    return sorted((word for word in command.words if word.name in command.choice), key=lambda word: word.is_option())
-
-
-def written(word):
-    """A word as a synopsis has it."""
+def written(command, word):
+    """A word as a synopsis has it, with the options that need it."""
     name = f"--{word.name} " if word.is_option() else ""
-    return f"{name}{word.value or ''}".strip()
+    others = [f"[{written(command, other)}]" for other in command.options() if other.other == word.name]
+    return " ".join([f"{name}{word.value or ''}".strip(), *others])
 
 
 def plain(command):
     """The synopsis of a command as text."""
     said = [f"relayd {command.name}"]
-    for word, others in parts(command):
-        inner = " ".join([written(word), *(f"[{written(other)}]" for other in others)])
-        said.append(inner if word.form == "NeededValue" else f"[{inner}]")
-    if command.choice:
-        said.append("{" + " | ".join(written(word) for word in chosen(command)) + "}")
+    for words in parts(command):
+        inner = " | ".join(written(command, word) for word in words)
+        if len(words) > 1:
+            said.append(f"{{{inner}}}")
+        else:
+            said.append(inner if words[0].form == "NeededValue" else f"[{inner}]")
     return " ".join(said)
 
 
 def in_man(text):
-    """A word of the command line as a man page has it."""
+    """A text as a man page has it: names of options and of the command bold, values in italics."""
+    text = re.sub(r"(^relayd \w+|--[a-z]+(?:-[a-z]+)*)|\b([A-Z]+)\b",
+                  lambda found: f"\\fB{found[1]}\\fR" if found[1] else f"\\fI{found[2]}\\fR", text)
     return text.replace("-", "\\-")
-
-
-def man_words(word, opening, closing):
-    """The lines of the man page of an option, between brackets if it may be left out."""
-    name = in_man("--" + word.name)
-    if word.value is None:
-        return [f".RB {opening} {name} {closing}".rstrip()] if closing else [f".RB {opening} {name}"]
-    return [f".RB {opening} {name}", f".IR {word.value} {closing}".rstrip()]
 
 
 def man_synopsis(command):
     """The synopsis of a command in the man page."""
-    lines = [f".B relayd {command.name}"]
-    for word, others in parts(command):
-        if word.form == "NeededValue":
-            lines += [f".B {in_man('--' + word.name)}", f".I {word.value}"]
-            continue
-        lines += man_words(word, "[", "" if others else "]")
-        for place, other in enumerate(others):
-            lines += man_words(other, "[", "]]" if place == len(others) - 1 else "]")
-    if command.choice:
-        bare, named = chosen(command)
-        lines += [f'.RI {{ {bare.value} " | "', f".B {in_man('--' + named.name)}", f".IR {named.value} }}"]
-    return "\n".join(lines) + "\n.br\n"
+    return in_man(plain(command)) + "\n.br\n"
 
 
 def man_entry(name):
     """The entry of an option that the man page does not have yet."""
     word = next(word for word in takers(name)[0].options() if word.name == name)
-    head = f'.BI {in_man("--" + name)} " {word.value}"' if word.value else f".B {in_man('--' + name)}"
-    return f".TP\n{head}\n()\n{in_man(word.help)}.\n"
+    option = f"--{name}".replace("-", "\\-")
+    head = f'.BI {option} " {word.value}"' if word.value else f".B {option}"
+    return f".TP\n{head}\n()\n{word.help.replace('-', chr(92) + '-')}.\n"
 
 
 def man_page(text):

@@ -22,7 +22,7 @@ class Word(NamedTuple):
     name: str
     form: str
     value: Optional[str]  # what the help calls its value
-    other: Optional[str]  # the option that it needs
+    other: Optional[str]  # the option that it needs, or goes with
     help: str
 
     def is_option(self):
@@ -46,7 +46,7 @@ class Command(NamedTuple):
     name: str
     about: str
     words: list
-    choice: list  # the names of the words of which one has to be given
+    choices: list  # pairs of the names of words of which one has to be given
 
     def options(self):
         """The options that its help shows."""
@@ -64,7 +64,17 @@ def word_of(found):
     value, other = (names + [None, None])[:2]
     if form == "FlagWith":
         value, other = None, value
-    return Word(name, form, value, other if form.endswith("With") else None, text)
+    elif form == "ValueOr":  # its default value
+        other = None
+    return Word(name, form, value, other, text)
+
+
+def goes_with(word, choices):
+    """A word that excludes one of a choice goes with the other one."""
+    if word.form != "ValueWithout":
+        return word
+    return word._replace(other=next(first if second == word.other else second for first, second in choices
+                                    if word.other in (first, second)))
 
 
 def words_in(text, constants):
@@ -87,10 +97,11 @@ def commands():
     found = []
     for table in COMMAND.findall(text):
         name, about = (re.search(rf"\b{field}: {STRING}", table)[1] for field in ("name", "about"))
-        own = re.search(r"\bfiles: (.*?)\n    words: &\[(.*)\],\n    choice: (.*)", table, re.DOTALL)
+        own = re.search(r"\bfiles: (.*?)\n    words: &\[(.*)\],\n    choices: (.*)", table, re.DOTALL)
         first = files if own[1] == "FILES," else words_in(own[1], constants)
-        chosen = re.search(rf"words: \[{STRING}, {STRING}\]", own[3])
-        found.append(Command(name, about, first + words_in(own[2], constants), list(chosen.groups()) if chosen else []))
+        choices = re.findall(rf"words: \[{STRING}, {STRING}\]", own[3])
+        words = [goes_with(word, choices) for word in first + words_in(own[2], constants)]
+        found.append(Command(name, about, words, choices))
     return found
 
 

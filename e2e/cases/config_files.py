@@ -71,13 +71,12 @@ class CannotRead(WithFiles):
             self.same(role, run(words, preexec_fn=without_override), expected, words)
             path.unlink()
 
-    def test_words_that_name_no_file(self):
-        for word in ("", "./-"):
-            for role in ROLES:
-                with self.subTest():
-                    words = ("check", f"--{role}={word}", *self.given(RIGHT | {role: None}))
-                    expected = Ran(3, b"", b"relayd: %s: cannot read\n" % role.encode())
-                    self.same(word, run(words, cwd=self.folder), expected, words)
+    def test_a_word_that_names_no_file(self):
+        for role in ROLES:
+            with self.subTest():
+                words = ("check", f"--{role}=./-", *self.given(RIGHT | {role: None}))
+                expected = Ran(3, b"", b"relayd: %s: cannot read\n" % role.encode())
+                self.same("./-", run(words, cwd=self.folder), expected, words)
 
     def test_rules_that_a_ring_does_not_use(self):
         self.refused("rules: cannot read", 3, config=ring("h:1"), rules=self.folder)

@@ -154,7 +154,7 @@ class Cures(WithFiles):
             rows = [line for line in page if line.startswith("| `relayd: ")]
         named = {found for row in rows for found in re.findall(r"`relayd: ([^`]+)`", row.split(" | ")[0])}
         elsewhere = {f"{role}: cannot read" for role in ("config", "rules", "rewrite", "script")} | {"input", "output"}
-        elsewhere |= {f"spool: DIR: {it}" for it in ("cannot write", "another relay uses it")}
+        elsewhere |= {f"spool: DIR: {it}" for it in ("cannot write: REASON", "another relay uses it")}
         elsewhere |= {f"spool: FILE: {it}" for it in ("a link", "REASON (os error N)")} | {"no descriptors", "no threads"}
         elsewhere |= {f"listen: {role}" for role in ("line", "pickle", "udp", "admin", "status")}
         here = {f"{cure.role}: " + re.sub(r"^\d+:", "SECTION:", re.sub(r"^line [1-9]\d*", "line N", cure.fault))

@@ -68,7 +68,8 @@ class Descriptors(WithRelays):
         def few():
             resource.setrlimit(resource.RLIMIT_NOFILE, (limit, limit))
 
-        with held(["run", *files, "--admin", str(admin), "--explain"], bufsize=0, preexec_fn=few) as child:
+        words = ["run", *files, "--longest-name", "1024", "--admin", str(admin), "--explain"]
+        with held(words, bufsize=0, preexec_fn=few) as child:
             relay = Relay(child, *listening, admin)
             if not relay.is_ready():
                 ended = relay.end()

@@ -1,6 +1,7 @@
 """`--explain`: notes on standard error, beside the same output, fault and status as without it."""
 
 import contextlib
+import gzip
 import json
 import os
 import pty
@@ -22,6 +23,7 @@ from fixtures.stores import free_ports
 CARBON = Path("/usr/lib/python3/dist-packages/carbon/conf.py")
 
 NOTE = b"relayd: note: "
+STRIPPED = notes.STRIPPED  # the two rules for white space, as the pages have them
 FAULTY = [  # a file of each kind with a fault, and words of its notes
     ({"config": "\ufeff[relay]\n"}, "the file begins with a byte order mark", "cure: delete the mark"),
     ({"config": b"[relay]\n# gr\xfcn\n"}, "line 2: byte 252 at column 5 is not UTF-8"),
@@ -96,6 +98,39 @@ FAULTY += [  # what people bring from elsewhere
 ]
 
 
+WHITE = "a replacement contains no white space and no control byte"
+FAULTY += [  # what tired people do, and none of these has a cure of something else
+    ({"config": settings(DESTINATIONS="10.0.0.[1-3]:2003")}, "a host and an instance have 1 to 255 characters"),
+    ({"config": settings(DESTINATIONS="${STORE}:2003")}, "relayd replaces no variables and fills no templates",
+     "cure: write the value itself"),
+    ({"config": settings(DESTINATIONS="{{ stores }}")}, "relayd replaces no variables and fills no templates"),
+    ({"config": settings(MAX_QUEUE_SIZE="$SIZE")}, "relayd replaces no variables and fills no templates"),
+    ({"config": settings(DESTINATIONS="= h:2003")}, "the value begins with a second one", "cure: write one of the two"),
+    ({"config": settings(MAX_QUEUE_SIZE="= 500")}, "the value begins with a second one", "cure: write one of the two"),
+    ({"config": settings(MAX_QUEUE_SIZE="50\u00ad000")}, "a character of the value is beyond ASCII"),
+    ({"config": settings(RELAY_METHOD="consistent\u2013hashing")}, "a character of the value is beyond ASCII"),
+    ({"config": settings(PICKLE_RECEIVER_PORT="none")}, "expected: 0 to 65535 in decimal digits, 0 for none"),
+    ({"config": "// settings\n" + SETTINGS}, "a comment is a line that begins with `#`, and this one does not", "cure: begin it with `#`"),
+    ({"config": SETTINGS.replace("[relay]", "[relay]\n-- stores")}, "a comment is a line that begins with `#`"),
+    *(({"config": SETTINGS.replace("[relay]", f"[{name}]")}, f"  [{name}]", "no section of just this name", "cure: write the header as [relay]")
+      for name in ("[relay]", "relays", "carbon-relay")),
+    *(({"config": text}, "the file is empty, or has comments alone", "cure: write sections and keys") for text in ("", "# none\n")),
+    ({"config": gzip.compress(SETTINGS.encode(), mtime=0)}, "the file is compressed by gzip", "cure: unpack it: gunzip"),
+    ({"rules": "[rules]\npattern = ^a\ndestinations = h:1\npattern = ^b\n"}, "cure: write a header such as [web] above this rule"),
+    ({"rules": "[a]\npattern = (?P<x>a)\\k<x>\ndestinations = h:1\n"}, "it does not repeat what the group found"),
+    ({"rules": "[a]\npattern = ^{web01,web02}\\.\ndestinations = h:1\n"}, "cure: write (a|b) for {a,b}"),
+    ({"rules": "[a]\npattern = {a,b}\ndestinations = h:1\n"}, "cure: write (a|b) for {a,b}"),
+    ({"rules": "[a]\npattern = {|b\ndestinations = h:1\n"}, "cure: write \\{ for the character itself"),
+    ({"rules": "[carbon]\npattern = ^carbon\\.\nretentions = 60:90d\n"}, "the file looks like one of carbon-cache",
+     "cure: give sections with pattern and destinations"),
+    ({"rewrite": "// strip\n[pre]\na = b\n"}, "a comment is a line that begins with `#`"),
+    ({"rewrite": "[pre]\n^a => b\n"}, "so `>` is part of the replacement", "cure: write `=` without `>`"),
+    ({"rewrite": "[pre]\n^a == b\n"}, "the replacement begins with a second one", "cure: write one of the two, or \\x3d"),
+    ({"rewrite": "[pre]\n^a = b\tc\n"}, WHITE, "cure: delete it"),
+    ({"rewrite": "[pre]\n^a = b c\n"}, WHITE, "cure: delete it"),
+]
+
+
 def with_rule(pattern):
     """Relay rules of which the first has this pattern."""
     return RULES.replace("^a\\.", pattern)
@@ -147,6 +182,22 @@ GOOD = [  # a good configuration, and words of its notes: none where there is no
 ]
 
 
+FINDS_NOTHING = "`^` is the beginning of a name and `$` its end, so the pattern finds nothing"
+SIGN = "the first sign of the replacement becomes part of the metric name"
+GOOD += [  # what tired people do
+    *(({"config": settings(DESTINATIONS=f"127.0.0.1:3001, 127.0.0.1:3002, {host}:2003")},
+       f"{host}:2003: `{host}` is not an IP address, so it is looked up as the name of a host")
+      for host in ("10.0.0.256", "10.0.1", "10.0.0.1.1")),
+    ({"config": settings(LINE_RECEIVER_INTERFACE="[::]")}, "LINE_RECEIVER_INTERFACE: `[::]` is not an IP address, so run cannot listen "
+     "there; write it without brackets"),
+    *(({"rules": with_rule(pattern)}, FINDS_NOTHING) for pattern in ("servers^web", r"^a$b", r"servers\.^web", "a$.b")),
+    *(({"rules": with_rule(pattern)},) for pattern in ("^^a", "a$$", "b*^a", "(?-i)^a", r"a\^b", "[^a]b", "b|^a")),
+    *(({"rewrite": f"{STRIPPED}{rule}\n"}, SIGN) for rule in ("^a =>b", "^a ==b")),
+    ({"rewrite": f"{STRIPPED}= b\n"}, "the rule has no pattern, so it puts its replacement between all letters of every name"),
+    ({"rewrite": f"{STRIPPED}=\n"},),
+]
+
+
 # A value of each key of carbon that changes what it receives or sends, one with which it does what relayd does, and words of
 # the note of the first.
 EFFECTS = (
@@ -164,7 +215,6 @@ EFFECTS = (
     ("METRIC_CLIENT_IDLE_TIMEOUT", "300", "", "relayd only with --idle SECONDS"),
 )
 LIMITED = ("--longest-name", "1024")
-STRIPPED = notes.STRIPPED  # the two rules for white space, as the pages have them
 
 
 class OfFiles(WithFiles):
@@ -235,6 +285,24 @@ class OfFiles(WithFiles):
                 given = self.given(files)
                 self.assertEqual(note in run(("check", "--explain", *given)).err, wanted, files)
                 self.assertEqual(run(("check", "--explain", "--strict", *given)).err, b"")
+
+    def test_names_with_more(self):
+        """The first line that has more than a name is shown."""
+        names = self.folder / "names"
+        names.write_bytes(b"a.b\na.b 1 2\nc d\n")
+        words = self.given({})
+        plain, ran = (run(("route", "--names", str(names), *more, *words)) for more in ((), ("--explain",)))
+        self.assertEqual(ran[:2], plain[:2])
+        self.assertEqual(ran.err, plain.err + b"".join(NOTE + it + b"\n" for it in (
+            f"{names} line 2:".encode(), b"  a.b 1 2", b"  ^^^^^^^", b"a line of a file of names has one name and nothing after it",
+            b"cure: keep the first field of each line: cut -d ' ' -f 1")))
+
+    def test_a_script_that_is_no_text(self):
+        script = self.folder / "script"
+        for text, cure in ((b"reader line\n\xd4\xc3\n", "cure: turn it into UTF-8"),
+                           (b"reader line\n\xd4\xc3\xb2\xa1\x02\0", "cure: give the path of a text file")):
+            script.write_bytes(text)
+            self.explained(("replay", str(script)), {}, ["script line 2: byte 212 at column 1 is not UTF-8", cure])
 
     def test_names_in_utf16(self):
         names = self.folder / "names"
@@ -440,6 +508,12 @@ class AtATerminal(WithFiles):
                             ("script", ("replay", missing, *self.given({})))):
             self.assertRegex(self.told(*words).decode(), f"^relayd: {role}: cannot read\nrelayd: note: {missing}: No such file")
 
+    def test_no_relay(self):
+        port, = free_ports(1)
+        hint = b"relayd: note: ps -o args -C relayd shows the --admin and --admin-key of a running relay\n"
+        for words in (("report",), ("stop",), ("reload",)):
+            self.assertEqual(self.told(*words, "--admin", str(port)), b"relayd: admin: 127.0.0.1:%d: connection refused\n%s" % (port, hint))
+
 
 def carbon_keys():
     """The keys that carbon of this machine has defaults for, and that relayd does not read."""
@@ -472,6 +546,41 @@ class OfMemory(WithFiles):
         self.assertEqual(self.checked(300_000, MAX_QUEUE_SIZE=100_000)[1:], (b"ok 2 destinations\n", b""))
 
 
+class OfRuns(WithRelays):
+    """`run` and `restart` have the notes of `check` on the same files."""
+
+    def test_a_run_and_a_restart(self):
+        """Before it is ready, and before the relay stops; without the flag there are none."""
+        ring_of_one = {"RELAY_METHOD": "consistent-hashing", "REPLICATION_FACTOR": "2", "max_queue_size": "7"}
+        for more in (("--explain",), ()):
+            with self.subTest(), self.relay(["127.0.0.1:2004"], options=more, **ring_of_one) as relay:
+                path = self.folder / "config"
+                path.write_text(relay.config, encoding="ascii")
+                words = ("--config", os.fspath(path))
+                notes = run(("check", *words, *more)).err
+                self.assertEqual(notes.count(NOTE), 4 if more else 0, notes)
+                ran = run(("restart", *words, *more, "--admin", str(relay.admin)))
+                self.assertEqual(ran, Ran(0, b"ok 1 destinations\nstopping\n", notes))
+                ended = relay.end()
+                self.assertEqual((ended.status, ended.out), (0, b"settled\n"))
+                self.assertEqual([line.partition(b" line ")[2] for line in ended.err.splitlines() if b" line " in line],
+                                 [line.partition(b" line ")[2] for line in notes.splitlines() if b" line " in line])
+                self.assertEqual(ended.err.count(NOTE), notes.count(NOTE))
+
+    def test_standard_input(self):
+        """A configuration that is read once has its notes too."""
+        config = self.configuration(["127.0.0.1:2004"], free_ports(3), RELAY_METHOD="consistent-hashing")
+        words = ("run", "--config", "-", "--admin", str(free_ports(1)[0]), "--explain")
+        with self.subTest(), subprocess.Popen([Settings.relayd, *words], stdin=subprocess.PIPE, stdout=subprocess.PIPE,
+                                              stderr=subprocess.PIPE) as child:
+            child.stdin.write(config.encode())
+            child.stdin.close()
+            ready = child.stdout.readline()
+            child.kill()
+            self.assertEqual(ready, b"ready\n")
+            self.assertIn(b"2004 is the port where carbon's stores usually receive pickles", child.stderr.read())
+
+
 class OfPorts(WithRelays):
     """`run --explain` where a port cannot be bound."""
 
@@ -486,7 +595,7 @@ class OfPorts(WithRelays):
                     taken.listen()
                 config = self.configuration(["127.0.0.1:1"], ports[:3], RELAY_METHOD="consistent-hashing")
                 words = self.given({"config": config, "rules": None})
-                ran = run(("run", *words, "--admin", str(ports[3]), "--explain"))
+                ran = run(("run", *LIMITED, *words, "--admin", str(ports[3]), "--explain"))
                 self.assertEqual((ran.status, ran.out), (3, b""))
                 fault, note, cure = ran.err.splitlines()
                 self.assertEqual(fault, b"relayd: listen: %s" % role.encode())
@@ -566,7 +675,18 @@ class OfLines(Suite):
 
     def test_a_line_too_long(self):
         self.explained(b"a\n" + b"x" * 16385 + b"\na\n", b"line 1: not three fields, name, value and time: a",
-                       in_all(1, FIELDS, "a"))
+                       b"line 2: more than 16384 bytes, and nothing behind it is read: " + b"x" * 120, in_all(1, FIELDS, "a"))
+
+    def test_what_has_no_newline(self):
+        for given, note in ((gzip.compress(b"a 1 2\n", mtime=0), b"the input has no newline: it is compressed by gzip"),
+                            (b"\0\0\0\x07\x80\x02]q\0.", b"the input has no newline: it looks like frames of pickles, which --pickle takes"),
+                            (b"a 1 2\rb 3 4\r", b"the last line has no newline, but a carriage return, which ends no line")):
+            self.explained(given, note)
+
+    def test_times_in_milliseconds(self):
+        """They are passed on, and have a note at the end."""
+        self.explained(b"a 1 100000000000\nb 2 100000000001\nc 3 1700000000000\n",
+                       in_all(2, "time: above 100000000000, as of milliseconds, and passed as seconds", "b, c"))
 
     def test_many_bad_lines(self):
         notes = [b"line %d: not three fields, name, value and time: a" % n for n in range(1, 11)]

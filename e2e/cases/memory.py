@@ -286,3 +286,19 @@ class OfARelay(WithRelays):
             self.assertLess(relay.resident(), most_memory(D=2, Q=QUEUE, R=3, L=LENGTH))
             self.assertGreater(relay.resident(), datapoints * LENGTH)
             self.settles(relay, b"sealed 0\n")
+
+    def test_what_is_reserved_is_touched_only_when_used(self):
+        """Where little is queued at a time, the room of a long queue costs no memory, however much goes through it."""
+        taken = 40 * 10_000
+        piece = b"".join(b"host%d.load 1 1700000000\n" % (number % 100) for number in range(10_000))
+        found = []
+        for size in (20_000, 1_000_000):
+            store, = self.stores(1)
+            dest = f"127.0.0.1:{store.port}"
+            with self.relay([dest], f"[all]\ndefault = true\ndestinations = {dest}\n", MAX_QUEUE_SIZE=size) as relay:
+                for sent in range(10_000, taken + 1, 10_000):
+                    relay.lines(piece)
+                    self.wait_for(lambda sent=sent: relay.totals()["taken"] == sent, "all are taken")
+                found.append(relay.resident())
+                self.settles(relay, b"sealed 0\n")
+        self.assertLess(found[1], 1.2 * found[0])

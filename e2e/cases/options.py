@@ -84,6 +84,7 @@ class Refused(Words):
                 self.refused(command, option)
 
     def test_words_of_other_programs_have_a_tip(self):
+        takes = b"each file has its option, such as --config FILE; --log takes none, and writes to standard error"
         stays = b"'relayd run' stays in the foreground; a supervisor such as systemd keeps it in the background"
         for words, reason, tip, usage in (
                 (("--daemon",), b"unexpected argument '--daemon' found", stays, b"run"),
@@ -95,6 +96,12 @@ class Refused(Words):
                  b"'relayd run' starts the relay, and stays in the foreground", b"run"),
                 (("start", "--config", "x"), b"unrecognized subcommand 'start'",
                  b"'relayd run' starts the relay, and stays in the foreground", b"run"),
+                (("status",), b"unrecognized subcommand 'status'",
+                 b"'relayd report' prints the counts of a running relay; 'relayd run --status PORT' serves a page", b"report"),
+                (("run", "relay.conf"), b"unexpected argument 'relay.conf' found", takes, b"run"),
+                (("run", "--config", "x", "--admin", "1", "--log", "/var/log/x"), b"unexpected argument '/var/log/x' found", takes, b"run"),
+                (("--config", "x"), b"unexpected argument '--config' found", b"options come after a command: relayd check --config FILE",
+                 b"check"),
                 (("pass", "lines.txt"), b"unexpected argument 'lines.txt' found",
                  b"'relayd pass' reads standard input: relayd pass < lines.txt", b"pass"),
                 (("pass", "--explain", "a b"), b"unexpected argument 'a b' found",
@@ -106,6 +113,18 @@ class Refused(Words):
         for words in (("stop", "-d"), ("pass", "-d"), ("check", "--daemon"), ("starts",), ("check", "start")):
             with self.subTest():
                 self.assertNotIn(b"relayd run' ", run(words, LINES).err)
+
+    def test_empty_paths(self):
+        """As those of a variable that is not set."""
+        for command, options in (("check", ("config", "rules", "rewrite")), ("route", ("names",)), ("replay", ("lines",)),
+                                 ("run", ("admin-key", "record", "spool")), ("report", ("admin-key",)), ("reload", ("admin-key",))):
+            for option in options:
+                others = (*(("--config", "x") if command in ("check", "route", "replay", "run") and option != "config" else ()),
+                          *(("--admin", "1") if command in ("run", "report", "reload") else ()))
+                words = (command, f"--{option}=", *others)
+                self.refused(*words)
+                with self.subTest():
+                    self.assertRegex(run(words, LINES).err, rb"\Aerror: invalid value '' for '--%s <(FILE|DIR)>': an empty path\n" % option.encode())
 
     def test_a_word_too_many(self):
         self.refused("pass", "word")

@@ -10,6 +10,7 @@ from fixtures.harness import Ran, Suite, one_byte_a_read, run
 
 NOTE = b"relayd: note: "
 ROWS = [("a.b", (1700000000, 42)), ("c", (-1, 0.5)), ("m\u00e9trique", ("7", "1.50"))]
+FORM = NOTE + b"cure: write pickle.dumps(rows, 2), where rows is [(name, (time, value)), ..] of texts and numbers\n"
 LINES = b"a.b 42 1700000000\nc 0.5 9\nm\xc3\xa9trique 1.5 7\n"
 WORDS = ("pass", "--pickle", "--moment", "9")
 LONGEST = 1_048_576
@@ -62,7 +63,7 @@ class PickleInput(Suite):
             frames = good + framed(text) + good
             self.expect(frames, LINES * 2, b"bad pickles 1\n", words=WORDS)
             self.expect(frames, LINES * 2, b"bad pickles 1\n", 1, words=(*WORDS, "--strict"))
-            note = b"%sframe 2, byte %d: %s\n" % (NOTE, len(good) + 4 + place, why)
+            note = b"%sframe 2, byte %d: %s\n%s" % (NOTE, len(good) + 4 + place, why, FORM)
             with self.subTest():
                 ran = run((*WORDS, "--explain"), frames)
                 self.same(text, ran, Ran(0, LINES * 2, note + b"bad pickles 1\n"))
@@ -89,6 +90,8 @@ class PickleInput(Suite):
         good = framed(pickle.dumps(ROWS, 2))
         for end, length, cause in ((struct.pack(">I", LONGEST + 1), LONGEST + 1, b""),
                                    (pickle.dumps(ROWS, 2), 0x80025d71, b"a pickle begins there, without the four bytes of its length"),
+                                   (struct.pack("<I", 40), 0x28000000, b"the length may begin with its least significant byte, "
+                                    b"and the most significant comes first"),
                                    (b"a.b 1 2\n", 0x612e6220, b"lines may begin there, which relayd pass reads without --pickle")):
             self.expect(good + end + good, LINES, b"frame too long\n", 1, words=(*WORDS, "--strict"))
             notes = b"%sframe 2, byte %d: a length of %d, above %d: nothing more is read\n" % (NOTE, len(good), length, LONGEST)
@@ -96,13 +99,13 @@ class PickleInput(Suite):
             self.expect(good + end + good, LINES, notes + b"frame too long\n", words=(*WORDS, "--explain"))
         longest = b"\x80\2]X" + struct.pack("<I", LONGEST - 9) + b"x" * (LONGEST - 9) + b"."
         self.expect(framed(longest), notes=b"bad pickles 1\n", words=WORDS)
-        self.expect(framed(longest), notes=b"%sframe 1, byte %d: not a list of rows\nbad pickles 1\n" % (NOTE, LONGEST + 3),
+        self.expect(framed(longest), notes=b"%sframe 1, byte %d: not a list of rows\n%sbad pickles 1\n" % (NOTE, LONGEST + 3, FORM),
                     words=(*WORDS, "--explain"))
 
     def test_many_bad_frames(self):
         frames = framed(*[b"(l."] * MANY)
         notes = b"".join(b"%sframe %d, byte %d: protocol 0\n" % (NOTE, number + 1, 7 * number + 5) for number in range(MOST_NOTES))
-        notes += b"%s%d more bad frames and rows\n" % (NOTE, MANY - MOST_NOTES)
+        notes += b"%s%d more bad frames and rows\n%s" % (NOTE, MANY - MOST_NOTES, FORM)
         self.expect(frames, notes=notes + b"bad pickles %d\n" % MANY, words=(*WORDS, "--explain"))
 
     def test_drawn_frames(self):

@@ -56,8 +56,12 @@ class QuickProgram(harness.Suite):
         far it is. An index out of range ends the program."""
         text, status = self.build(SOURCE)
         begins, *stages, built = text.splitlines(keepends=True)  # and no note
-        for stage, place in zip(stages, range(1, 5), strict=True):
-            self.assertRegex(stage, rf"^bin/small-quick: [a-z ]+ \({place} of 4, \d+:\d\d so far, [a-z0-9 ]+ to go\)\n$")
+        places = []
+        for stage in stages:
+            self.assertRegex(stage, r"^bin/small-quick: [a-z ]+ \([1-4] of 4, \d+:\d\d so far, [a-z0-9 ]+ to go\)\n$")
+            places.append(int(stage.partition("(")[2][0]))
+        self.assertEqual(sorted(set(places)), [1, 2, 3, 4])  # on a busy machine one comes again each half minute
+        self.assertEqual(places, sorted(places))
         self.assertEqual((begins, status), (f"bin/small-quick: about three minutes; {NOT_PROVED}", 0))
         self.assertRegex(built, rf"^bin/small-quick: built in \d+ s; {NOT_PROVED}")
         self.assertEqual(sorted(os.listdir(os.path.join(self.folder, "bin"))), ["small-quick", "small-quick.stamp"])

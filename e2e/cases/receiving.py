@@ -1,8 +1,7 @@
-"""What receivers do beside reading: why connections end and datagrams are lost, what the log says of it, and how they close."""
+"""What receivers do beside reading: why connections end and datagrams are lost, and what the log says of it."""
 
 import contextlib
 import os
-import pickle
 import re
 import resource
 import shutil
@@ -14,131 +13,26 @@ import threading
 import time
 
 from fixtures.harness import LIMIT, Settings
-from fixtures.log import LINE, Log
-from fixtures.running import WithRelays, shown
+from fixtures.receiving import Receiving, is_closed
+from fixtures.running import shown
 from fixtures.stores import free_ports
 
-ALL = "[all]\ndefault = true\ndestinations = {}\n"
 MOST_DATAGRAM = 65_507
 LONG_LINE = 16_385
 IDLE = 5              # seconds; no connection that is to stay open rests so long
-WAITING = 40          # producers whose lines wait while the relay sleeps
-EACH = 100
-CHUNK = 20            # lines that a producer writes at once
-WATCHING = 40         # producers that look for the end before each write
-AGAIN = 10            # producers that connect again
-QUIET = 0.02          # seconds for which nothing comes before a relay that stops no longer waits for more
-CLOSING = 0.5         # seconds that it takes at most to close its receivers
 DATAGRAMS = 4_000     # with their blank lines more than the buffer that a relay asks for
 BLANK = 4_000         # lines of a datagram beside its datapoint
 NOTING = 2            # seconds
-BELOW_ROOM = 100      # datagrams that fit into a socket's buffer
 MOST_CONNECTIONS = 1_024
 FRAME = 1_048_576     # bytes: the longest
 FRAMES = 60
 ROOM = 160 << 20      # bytes of memory: a relay leaves most of it to what is no long word
 
 
-def to_store(store):
-    """The address of a store."""
-    return f"127.0.0.1:{store.port}"
-
-
-def is_closed(stream):
-    """Whether the other side has closed a connection, as a producer sees that watches it."""
-    stream.setblocking(False)
-    try:
-        return stream.recv(1) == b""
-    except BlockingIOError:
-        return False
-    except ConnectionError:
-        return True
-    finally:
-        stream.settimeout(LIMIT)
-
-
-class Watcher:
-    """A producer that looks for the end before each write, and may connect again then."""
-
-    def __init__(self, port, text, comes_again):
-        self.port, self.text, self.comes_again = port, text, comes_again
-        self.sent = 0         # times the text
-        self.longest = 0.0    # seconds from a look to the end of the write
-        self.is_over = False  # whether it has seen the end, for good
-        self.stream = socket.create_connection(("127.0.0.1", port), LIMIT)
-
-    def write(self):
-        """Looks, and writes unless the connection is closed."""
-        began = time.monotonic()
-        if is_closed(self.stream):
-            self.stream.close()
-            self.come_again()
-            return
-        with contextlib.suppress(ConnectionError):
-            self.stream.sendall(self.text)
-            self.sent += 1
-        self.longest = max(self.longest, time.monotonic() - began)
-
-    def come_again(self):
-        """Connects again, if it is one that does and the port is open."""
-        self.is_over = True
-        if self.comes_again:
-            with contextlib.suppress(ConnectionRefusedError):
-                self.stream = socket.create_connection(("127.0.0.1", self.port), LIMIT)
-                self.is_over = False
-
-
-def write_by_turns(watchers, ended):
-    """Lets each of these producers write, one after the other, again and again until all are over, or that is set."""
-    while not all(watcher.is_over for watcher in watchers):
-        for watcher in watchers:
-            if not watcher.is_over:
-                watcher.write()
-        if ended.is_set():
-            return
-        time.sleep(0.02)
-
-
 def reset(stream):
     """Resets a connection."""
     stream.setsockopt(socket.SOL_SOCKET, socket.SO_LINGER, struct.pack("ii", 1, 0))
     stream.close()
-
-
-class Receiving(WithRelays):
-    """Relays with one store and a log."""
-
-    @contextlib.contextmanager
-    def logged(self, options=(), **changed):
-        """A relay with a log, and its store."""
-        store, = self.stores(1)
-        dests = [to_store(store)]
-        with self.relay(dests, ALL.format(*dests), options=("--log", *options), **changed) as relay:
-            relay.store, relay.log = store, Log(relay.child.stderr)
-            yield relay
-
-    def connected(self, relay, port=None):
-        """A connection to a relay."""
-        stream = socket.create_connection(("127.0.0.1", port or relay.line), LIMIT)
-        self.addCleanup(stream.close)
-        return stream
-
-    def ends(self, relay):
-        """The relay ends well, and each line of its log has the form of one."""
-        self.assertEqual(relay.command(b"stop"), b"stopping\n")
-        self.has_ended(relay)
-
-    def has_ended(self, relay):
-        """It has ended well, and each line of its log has the form of one."""
-        self.assertEqual(relay.child.wait(LIMIT), 0)
-        relay.log.thread.join(LIMIT)
-        for line in relay.log.lines:
-            self.assertTrue(LINE.fullmatch(line), line)
-
-    def last_of(self, relay, name):
-        """The last line that the log has of what a receiver lost."""
-        found = [line for line in relay.log.lines if line.startswith(f"receiver {name}: ".encode())]
-        return found[-1].rstrip(b"\n").decode() if found else None
 
 
 class Losses(Receiving):
@@ -274,106 +168,6 @@ class Losses(Receiving):
         return int(found[1]) if found else 0
 
 
-class Examples(Receiving):
-    """Who sends bad input, with --log."""
-
-    def example(self, relay, name):
-        """The examples that the log has of a receiver, one a minute at most."""
-        self.wait_for(lambda: any(b" from " in line for line in relay.log.lines), f"the log has one: {relay.log.lines}")
-        return [line for line in relay.log.lines if line.startswith(f"receiver {name}: bad ".encode()) and b" from " in line]
-
-    def test_each_fault_of_a_line(self):
-        for line, wrong in ((b"a 1 1 1", b"4 fields"), (b"a", b"1 field"), (b"a\x7f 1 1", b"not a metric name"),
-                            (b"a x 1", b"not a value"), (b"a 1 x", b"not a time")):
-            with self.subTest(line=line), self.logged() as relay:
-                relay.lines(b"good 1 1\n \n" + line + b"\ngood 2 2\n")
-                self.assertEqual(self.example(relay, "line"), [b"receiver line: bad line from 127.0.0.1: " + wrong + b"\n"])
-                self.ends(relay)
-
-    def test_a_line_in_two_pieces(self):
-        """A line that began in the piece before is no example, since only its end is there; a later one is."""
-        with self.logged() as relay, self.connected(relay) as stream:
-            stream.sendall(b"good 1 ")
-            time.sleep(0.3)
-            stream.sendall(b"1\na b c d e\n")
-            self.assertEqual(self.example(relay, "line"), [b"receiver line: bad line from 127.0.0.1: 5 fields\n"])
-            self.ends(relay)
-
-    def test_pickles_and_datagrams(self):
-        """They are named in the same way, at ports of IPv6 too."""
-        for name, send, wanted in (
-                ("pickle", lambda relay: relay.pickles(b"no pickle"), b"bad pickle from 127.0.0.1: not a pickle"),
-                ("pickle", lambda relay: relay.pickles(pickle.dumps([("a", (1, "x"))], 2)),
-                 b"bad row from 127.0.0.1: not a datapoint"),
-                ("udp", lambda relay: relay.datagram(b"good 1 1\na b"), b"bad line from 127.0.0.1: 2 fields")):
-            with self.subTest(name=name, wanted=wanted), self.logged() as relay:
-                send(relay)
-                self.assertEqual(self.example(relay, name), [f"receiver {name}: ".encode() + wanted + b"\n"])
-                self.ends(relay)
-        with self.logged(LINE_RECEIVER_INTERFACE="::") as relay:
-            for address in ("127.0.0.1", "::1"):
-                with socket.create_connection((address, relay.line), LIMIT) as stream:
-                    stream.sendall(b"a 1\n")
-                    self.assertEqual(self.example(relay, "line"), [b"receiver line: bad line from 127.0.0.1: 2 fields\n"])
-            self.ends(relay)
-
-    def test_why_a_pickle_cannot_be_read(self):
-        """Also of a long one, which comes in several pieces, if its first bytes show it."""
-        row, whole = ("a", (1, 1)), ("a", (1, 2 ** 31))
-        for pickled, wanted in ((pickle.dumps([row], 0), b"protocol 0"), (pickle.dumps([row] * 2_000, 0), b"protocol 0"),
-                                (pickle.dumps([whole], 1), b"opcode 'L' of protocol 1"),
-                                (pickle.dumps([("a", (1, True))], 1), b"opcode 'I' of protocol 1"),
-                                (pickle.dumps([("a", (1, 1 + 1j))], 2), b"opcode 'c' of protocol 2"),
-                                (pickle.dumps([("a", (1, 1 + 1j))], 4), b"opcode 147 of protocol 4"),
-                                (b"\x80\x09]q\0.", b"protocol 9"), (pickle.dumps([row], 2)[:-1], b"ends too early"),
-                                (pickle.dumps(row, 2), b"not a list of rows"), (b"h\0.", b"a memo entry that is not there"),
-                                (b"]X\1\0\0\0\xff.", b"a text that is not UTF-8")):
-            with self.subTest(wanted), self.logged() as relay:
-                relay.pickles(pickle.dumps([row], 2), pickled)
-                self.assertEqual(self.example(relay, "pickle"), [b"receiver pickle: bad pickle from 127.0.0.1: " + wanted + b"\n"])
-                self.ends(relay)
-
-    def test_a_name_that_rewriting_spoils(self):
-        """One that a rule makes too long is bad. One that a rule empties is dropped on purpose, and no bad input."""
-        with self.logged(rewrite=f"[pre]\n^spoil$ = {'x' * LONG_LINE}\n^dropped$ =\n") as relay:
-            relay.lines(b"dropped 1 1\nspoil 1 1\ndropped 2 2\n")
-            self.assertEqual(self.example(relay, "line"),
-                             [b"receiver line: bad name from 127.0.0.1: not a metric name after rewriting\n"])
-            self.ends(relay)
-            self.assertEqual(self.last_of(relay, "line"), "receiver line: 1 bad name")
-
-    def test_names_that_are_dropped_on_purpose(self):
-        """They are no bad input: the log has nothing of them, and the status is well."""
-        status, = free_ports(1)
-        options = ("--status", str(status), "--longest-name", "20")
-        with self.logged(options, rewrite="[pre]\n^dropped$ =\n") as relay:
-            self.wait_for(lambda: shown(status)["destinations"][0]["connected"], "the store is connected")
-            end = time.monotonic() + NOTING
-            while time.monotonic() < end:
-                relay.lines(b"dropped 1 1\n" + b"n" * 21 + b" 1 1\n")
-                relay.datagram(b"dropped 1 1\n")
-                time.sleep(0.1)
-            relay.lines(b"last 1 1\n")
-            self.wait_for(lambda: relay.store.lines() == [b"last 1 1"], "the others come")
-            self.wait_for(lambda: shown(status)["receivers"][0]["datapoints"] % 2 == 1, "all are counted")
-            counts = shown(status)
-            line, _pickle, udp = counts["receivers"]
-            self.assertEqual(counts["state"], "well")
-            self.assertEqual([it["bad_names"] for it in counts["receivers"]], [0, 0, 0])
-            self.assertEqual(line["emptied_names"], line["datapoints"] - 1)
-            self.assertEqual(udp["emptied_names"], udp["datapoints"])
-            self.ends(relay)
-            self.assertEqual([line for line in relay.log.lines if b"bad" in line], [])
-
-    def test_not_more_than_one_a_minute(self):
-        with self.logged() as relay:
-            for number in range(3):
-                relay.lines(b"bad %d\n" % number)
-                time.sleep(1.2)
-            self.assertEqual(len(self.example(relay, "line")), 1)
-            self.ends(relay)
-
-
 class Taking(Receiving):
     """Errors of taking connections and datagrams."""
 
@@ -446,198 +240,6 @@ class Taking(Receiving):
             self.wait_for(lambda: relay.store.lines() == [b"a 1 1"], "datagrams are still received")
             self.assertEqual(relay.command(b"stop"), b"stopping\n")
             self.assertEqual(relay.child.wait(LIMIT), 3)
-
-
-class Closing(Receiving):
-    """What was sent before a stop is read."""
-
-    @contextlib.contextmanager
-    def asleep(self, relay):
-        """A relay that has no processor meanwhile."""
-        os.kill(relay.child.pid, signal.SIGSTOP)
-        try:
-            yield
-        finally:
-            with contextlib.suppress(ProcessLookupError):
-                os.kill(relay.child.pid, signal.SIGCONT)
-
-    def test_lines_that_wait(self):
-        """Those of connections that are held, and of connections that wait to be taken."""
-        self.gets_below(CLOSING, self.stops_with_lines)
-
-    def stops_with_lines(self):
-        """How long a stop takes beside lines that wait."""
-        with self.logged(("--drain", "3600"), MAX_QUEUE_SIZE="100000") as relay:
-            held = [self.connected(relay) for _ in range(WAITING // 2)]
-            for stream in held:
-                stream.sendall(b"first 1 1\n")
-            self.wait_for(lambda: len(relay.store.lines()) == len(held), "they are held")
-
-            def send():
-                waiting = held + [self.connected(relay) for _ in range(WAITING // 2)]
-                for number, stream in enumerate(waiting):
-                    stream.sendall(b"".join(b"w%d %d 1\n" % (number, value) for value in range(EACH)))
-
-            return self.stops_after(relay, send, WAITING // 2 + WAITING * EACH)
-
-    def stops_after(self, relay, send, count):
-        """Sends what waits while the relay sleeps, and stops it. The store has so many lines then, unless the machine did not
-        let the relay read them in time. Gives how long the stop took."""
-        with self.asleep(relay), socket.create_connection(("127.0.0.1", relay.admin), LIMIT) as admin:
-            send()
-            admin.sendall(b"stop\n")
-            began = time.monotonic()
-            os.kill(relay.child.pid, signal.SIGCONT)
-            self.has_ended(relay)
-            took = time.monotonic() - began
-        if took < CLOSING:
-            self.has_all(relay, count)
-        return took
-
-    def has_all(self, relay, count):
-        """The store has so many lines of a relay that has ended, and no more."""
-        self.wait_for(lambda: len(relay.store.lines()) >= count, f"the store has {count} lines")
-        relay.store.finish()
-        self.assertEqual(len(relay.store.lines()), count)
-
-    def test_producers_that_watch(self):
-        """A producer that looks for the end before each write loses nothing, and sees the end before the relay is gone."""
-        self.gets_below(1, lambda: self.stops_beside(WATCHING, comes_again=False))
-
-    def test_producers_that_come_again(self):
-        """Nor does one that connects again while the relay closes, as long as its port is open.
-
-        Beside one that writes without looking the relay has 50 milliseconds for the last connections. Where a busy machine
-        does not run it then it loses some; one that does not take them loses some in each attempt.
-        """
-        self.gets_below(1, lambda: self.stops_beside(AGAIN, comes_again=True))
-
-    def stops_beside(self, count, comes_again):
-        """Stops a relay beside so many producers that watch, and maybe one that does not. The store has all that they wrote,
-        unless the machine held one up between its look and its write for longer than the relay waits for more, or the relay
-        for longer than it reads on. Gives the greatest part of these times; or how much is lost, of those that come again.
-        """
-        with self.logged(("--drain", "3600"), MAX_QUEUE_SIZE="1000000") as relay, contextlib.ExitStack() as stack:
-            watchers = [Watcher(relay.line, b"p%d 1 1\n" % place * CHUNK, comes_again) for place in range(count)]
-            if comes_again:
-                stack.enter_context(self.never_stops(relay))
-            ended = threading.Event()
-            producers = threading.Thread(target=write_by_turns, args=(watchers, ended))
-            producers.start()
-            self.wait_for(lambda: min(watcher.sent for watcher in watchers) > 2, "all send")
-            for watcher in watchers:
-                watcher.longest = 0.0  # what ended before the stop does not matter
-            began = time.monotonic()
-            try:
-                self.ends(relay)
-            finally:
-                ended.set()
-            took = time.monotonic() - began
-            producers.join(LIMIT)
-            sent = CHUNK * sum(watcher.sent for watcher in watchers)
-            relay.store.finish()
-            lost = sent - sum(line != b"blind 1 1" for line in relay.store.lines())
-            if comes_again:
-                return lost
-            held_up = max(took / CLOSING, *(watcher.longest / QUIET for watcher in watchers))
-            if held_up < 1:
-                self.assertEqual(lost, 0)
-                self.assertTrue(all(watcher.is_over for watcher in watchers), "each has seen the end")
-            return held_up
-
-    @contextlib.contextmanager
-    def never_stops(self, relay):
-        """Beside a producer that writes without looking until it cannot."""
-        def write():
-            with socket.create_connection(("127.0.0.1", relay.line), LIMIT) as stream, contextlib.suppress(OSError):
-                while True:
-                    stream.sendall(b"blind 1 1\n")
-                    time.sleep(0.002)
-
-        thread = threading.Thread(target=write)
-        thread.start()
-        yield
-        thread.join(LIMIT)
-
-    def test_a_producer_that_comes_again_at_once(self):
-        """It comes again once: its new connection is half-closed only when no port is open."""
-        with self.logged(("--drain", "10"), MAX_QUEUE_SIZE="1000000") as relay:
-            came = {"watching": 0, "blind": 0}
-
-            def produce(name, again):
-                with contextlib.suppress(OSError):
-                    while True:
-                        with socket.create_connection(("127.0.0.1", relay.line), LIMIT) as stream:
-                            came[name] += 1
-                            while not (again and is_closed(stream)):
-                                stream.sendall(b"%s 1 1\n" % name.encode())
-                                time.sleep(0.002)
-
-            threads = [threading.Thread(target=produce, args=given) for given in (("watching", True), ("blind", False))]
-            for thread in threads:
-                thread.start()
-            self.wait_for(lambda: len(set(relay.store.lines())) == 2, "both send")
-            self.ends(relay)
-            for thread in threads:
-                thread.join(LIMIT)
-            self.assertLessEqual(came["watching"], 2)
-
-    def test_datagrams_that_wait(self):
-        """They are read before the socket is closed."""
-        self.gets_below(CLOSING, self.stops_with_datagrams)
-
-    def stops_with_datagrams(self):
-        """How long a stop takes beside datagrams that wait."""
-        with self.logged(("--drain", "3600")) as relay:
-            def send():
-                for number in range(BELOW_ROOM):
-                    relay.datagram(b"d%d 1 1" % number)
-
-            return self.stops_after(relay, send, BELOW_ROOM)
-
-    def test_producers_that_never_stop(self):
-        """They hold up no stop for longer than half a second and a little."""
-        self.gets_below(1.5, self.stops_beside_blind_ones)
-
-    def stops_beside_blind_ones(self):
-        """How long a stop takes beside producers that never stop."""
-        with self.logged() as relay:
-            gone = threading.Event()
-
-            def produce():
-                with socket.create_connection(("127.0.0.1", relay.line), LIMIT) as stream, \
-                        contextlib.suppress(OSError):
-                    while not gone.is_set():
-                        stream.sendall(b"a 1 1\n" * CHUNK)
-                        time.sleep(0.002)
-
-            threads = [threading.Thread(target=produce) for _ in range(4)]
-            for thread in threads:
-                thread.start()
-            self.wait_for(lambda: len(relay.store.lines()) > EACH, "they send")
-            began = time.monotonic()
-            self.ends(relay)
-            took = time.monotonic() - began
-            gone.set()
-            for thread in threads:
-                thread.join(LIMIT)
-            return took
-
-    def test_silent_producers(self):
-        """A relay to which nobody sends stops at once: no wait is sat out."""
-        self.gets_below(0.15, self.stops_beside_silent_ones)
-
-    def stops_beside_silent_ones(self):
-        """How long a stop takes beside silent producers."""
-        with self.logged() as relay:
-            silent = [self.connected(relay) for _ in range(5)]
-            self.connected(relay, relay.pickle)
-            for stream in silent:
-                stream.sendall(b"a 1 1\n")
-            self.wait_for(lambda: len(relay.store.lines()) == len(silent), "all are taken")
-            began = time.monotonic()
-            self.ends(relay)
-            return time.monotonic() - began
 
 
 class Noting(Receiving):

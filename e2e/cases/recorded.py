@@ -258,23 +258,23 @@ class Recorded(WithRelays):
 
     # ---- the file
 
-    def does_not_begin(self, reason=b"cannot write"):
-        """A relay that is to record does not start, and says why."""
+    def does_not_begin(self, reason):
+        """A relay that is to record does not start, and says where and why."""
         dest = f"127.0.0.1:{free_ports(1)[0]}"
         words = self.given({"config": self.configuration([dest], list(map(str, free_ports(3)))), "rules": ALL.format(dest)})
-        self.expect(b"", status=3, notes=b"relayd: record: " + reason + b"\n",
+        self.expect(b"", status=3, notes=f"relayd: record: {self.record}: {reason}\n".encode(),
                     words=("run", *words, "--admin", str(free_ports(1)[0]), "--record", os.fspath(self.record)))
 
     def test_a_file_that_cannot_be_written(self):
         """The relay finds that out at its start: there is no such folder, or what is there is no regular file."""
         self.record = self.folder / "none" / "record"
-        self.does_not_begin()
+        self.does_not_begin("cannot write: No such file or directory (os error 2)")
         self.record = self.folder / "fifo"
         os.mkfifo(self.record)
-        self.does_not_begin()
+        self.does_not_begin("no regular file")
         self.record = self.folder / "folder"
         self.record.mkdir()
-        self.does_not_begin()
+        self.does_not_begin("no regular file")
         self.assertEqual(list(self.record.iterdir()), [])
 
     def test_an_older_record_stays(self):
@@ -286,7 +286,8 @@ class Recorded(WithRelays):
             resource.prlimit(relay.child.pid, resource.RLIMIT_FSIZE, (4_096, 4_096))
             answer, ran = relay.stop()
             self.assertEqual(answer, b"stopping\n")
-            self.same("stop", ran, Ran(3, b"settled\n", b"relayd: record: cannot write\n"), ("run",))
+            fault = f"relayd: record: {self.record}: cannot write: file too large\n"
+            self.same("stop", ran, Ran(3, b"settled\n", fault.encode()), ("run",))
         self.assertEqual(self.record.read_bytes(), b"older")
         self.assertEqual([path.name for path in self.folder.iterdir() if path.name.startswith("record")], ["record"])
 

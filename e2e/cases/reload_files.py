@@ -173,7 +173,8 @@ class ReloadFiles(Reloads):
             self.stops(relay)
 
     def test_a_dead_mount(self):
-        """Where a file does not answer, the reload is refused after its time; reports are answered meanwhile, and a stop."""
+        """Where a file does not answer, the reload is refused after its time, and no note waits for it; reports are answered
+        meanwhile, and a stop."""
         for is_stopped in (True, False):
             with self.subTest(is_stopped), self.one() as relay, contextlib.ExitStack() as stack:
                 folder = self.path("dead")
@@ -187,7 +188,7 @@ class ReloadFiles(Reloads):
                 os.remove(self.path("config"))
                 os.symlink(os.path.join(folder, "config"), self.path("config"))
                 ran = []
-                asking = threading.Thread(target=lambda: ran.append(self.reload(relay)))
+                asking = threading.Thread(target=lambda: ran.append(self.reload(relay, "--explain")))
                 began = time.monotonic()
                 asking.start()
                 time.sleep(0.5)
@@ -201,7 +202,9 @@ class ReloadFiles(Reloads):
                 asking.join(LIMIT)
                 self.assertGreater(time.monotonic() - began, READING - 1)
                 self.assertEqual(ran, [Ran(3, b"", b"relayd: files: not read within 10 seconds\n")])
-                self.assertEqual(self.reload(relay), Ran(3, b"", b"relayd: files: an earlier reload still reads them\n"))
+                for words in ((), ("--explain",)):
+                    ran = Ran(3, b"", b"relayd: files: an earlier reload still reads them\n")
+                    self.assertEqual(self.reload(relay, *words), ran)
                 self.sends(relay)
                 stack.close()
                 os.remove(self.path("config"))

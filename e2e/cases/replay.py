@@ -315,9 +315,9 @@ class Cuts(WithScript):
                 [(stream[at:at + 1], self.FIRST + at) for at in range(len(stream))]]
 
     def test_lines(self):
-        stream = b"b 1 2\nold.c 3 -1\nbad\nx 1 2\n\na.d 4 5\r\n  b\t+042.000   8.9\r\nrest 1 2"
+        stream = b"b 1 2\nold.c 3 -1\nbad\nx 1 2\n\na.d 4 5\r\n  a.b\t+042.000   1700000000.9\r\nrest 1 2"
         self.gives("line", self.at_each_place(stream),
-                   ((b"a.c 3 {}\na.d 4 5\n", stream.index(b"\nbad")), b"b 1 2\nb 42 8\n"),
+                   ((b"a.c 3 {}\na.d 4 5\na.b 42 1700000000\n", stream.index(b"\nbad")), b"b 1 2\n"),
                    "bad lines 1 bad pickles 0 bad rows 0 bad names 1")
 
     def test_a_line_has_the_moment_of_its_newline(self):

@@ -2,7 +2,7 @@
 whose answers come from the formats and from Python's pickles.
 
 relayd is asked the same in `lines.py`, `values.py`, `python_pickles.py` and `routes.py`, in `replay.py` at each cut, and
-beside this reference in `replay.Generated`; the crates are in `core_tests`.
+beside this reference in `replay.Generated`; the calls of its crates by the rows of `fixtures/worked_rows.py`.
 """
 
 import pickle

@@ -1,6 +1,5 @@
 """`examples/report_to_graphite.py`: what a running relay reports comes to a store as datapoints, under carbon's names."""
 
-import contextlib
 import json
 import os
 import re
@@ -9,19 +8,19 @@ import socket
 import subprocess
 import sys
 import tempfile
-import threading
 import time
 import urllib.request
 
-from cases.receiving import shown
+from fixtures.answering import answering
 from fixtures.harness import LIMIT
 from fixtures.program import TOP
-from fixtures.running import WithRelays
+from fixtures.running import WithRelays, shown
 from fixtures.stores import free_ports
 
 SCRIPT = os.path.join(TOP, "examples", "report_to_graphite.py")
 LINE = re.compile(rb"(\S+) (\d+(?:\.\d+)?) (\d{10})")
 COUNTED = {"attemptedRelays": "offered", "sent": "taken", "fullQueueDrops": "dropped"}
+SPOOL = ("Datapoints", "Bytes", "AgeSeconds", "DatapointsPerSecond")
 MACHINE = socket.gethostname().replace(".", "_")
 BOUND = 60  # seconds in which the script gives up, with an answer that hangs and a store that hangs: ten, on a fast machine
 
@@ -31,27 +30,6 @@ def script(admin, port, *words):
     ran = subprocess.run([sys.executable, SCRIPT, "--admin", str(admin), "--to", f"127.0.0.1:{port}", *words],
                          stdout=subprocess.PIPE, stderr=subprocess.PIPE, timeout=LIMIT)
     return ran.returncode, ran.stdout + ran.stderr
-
-
-@contextlib.contextmanager
-def answering(answer):
-    """A program at an admin port, which answers each connection so, and its port."""
-    with socket.create_server(("127.0.0.1", 0)) as listener:
-        def take():
-            while True:
-                try:
-                    stream, _ = listener.accept()
-                except OSError:
-                    return
-                with stream, contextlib.suppress(OSError):
-                    stream.recv(64)
-                    answer(stream)
-
-        threading.Thread(target=take, daemon=True).start()
-        try:
-            yield listener.getsockname()[1]
-        finally:
-            listener.shutdown(socket.SHUT_RDWR)
 
 
 def is_shown(status):
@@ -94,7 +72,7 @@ class Reported(WithRelays):
                     self.wait_for(lambda: shown(status)["receivers"][0]["datapoints"] == count, "they have come")
                     seen = len(own.lines())
                     self.assertEqual(script(relay.admin, own.port, *words), (0, b""))
-                    values = self.values(own, seen, 5 + 4 + 5 + 3 * 6)
+                    values = self.values(own, seen, 5 + 4 + 9 + 3 * 6)
                 self.assertEqual((values[name + "metricsReceived"], values[name + "activeConnections"]), (count, 1))
                 self.assertGreater(values[name + "memUsage"], 1_000_000)
                 self.assertTrue(0 <= values[name + "cpuUsage"] <= 800, values)
@@ -110,7 +88,7 @@ class Reported(WithRelays):
         status, = free_ports(1)
         dests = [f"127.0.0.1:{store.port}:a"]
         with self.relay(dests, f"[all]\ndefault = true\ndestinations = {dests[0]}\n", options=("--status", str(status))) as relay:
-            for count in (2 + 2 + 5 + 3 * 6, 5 + 4 + 5 + 3 * 6):
+            for count in (2 + 2 + 9 + 3 * 6, 5 + 4 + 9 + 3 * 6):
                 self.assertEqual(script(relay.admin, own.port, "--status", str(status), "--state", self.state), (0, b""))
                 values = self.values(own, len(own.lines()) - count if own.lines() else 0, count)
             short = [name.removeprefix(f"carbon.relays.{MACHINE}.") for name in values]
@@ -132,11 +110,13 @@ class Reported(WithRelays):
             relay.lines(b"a 1 1\nbad\n")
             self.wait_for(lambda: is_shown(shown(status)), "the status has it")
             self.assertEqual(script(relay.admin, own.port, "--status", str(status)), (0, b""))
-            values = self.values(own, 0, 2 * 2 + 2 + 2 * 5 + 4 * 6)
+            values = self.values(own, 0, 2 * 2 + 2 + 2 * 9 + 4 * 6)
             names = f"carbon.relays.{MACHINE}"
             self.assertEqual(values[f"{names}.destinations.127_0_0_1:{store.port}:a.connected"], 1)
             self.assertEqual(values[f"{names}.destinations.127_0_0_1:{other}:None.connected"], 0)
             self.assertGreater(values[f"{names}.destinations.127_0_0_1:{other}:None.failedTries"], 0)
+            waiting = [values[f"{names}.destinations.127_0_0_1:{other}:None.spool{kind}"] for kind in SPOOL]
+            self.assertEqual(waiting, [0] * 4)
             receivers = [f"{names}.receivers.{name}" for name in ("line_0", "line_1", "pickle", "udp")]
             self.assertEqual([values[f"{name}.open"] for name in receivers], [1] * 4)
             self.assertEqual(sum(values[f"{name}.datapoints"] for name in receivers), 1)

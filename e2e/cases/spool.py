@@ -258,10 +258,11 @@ class Spool(WithSpool):
         dests = ["127.0.0.1:2004"]
         there = os.path.join(self.dir, "there-is-none")
         ran = self.refused(dests, folder=there)
-        self.assertEqual(ran, Ran(3, b"", f"relayd: spool: {there}: cannot write\n".encode()))
+        fault = "relayd: spool: {}: cannot write: {}\n"
+        self.assertEqual(ran, Ran(3, b"", fault.format(there, "No such file or directory (os error 2)").encode()))
         self.write("file", b"")
         ran = self.refused(dests, folder=self.path("file"))
-        self.assertEqual(ran, Ran(3, b"", f"relayd: spool: {self.path('file')}: cannot write\n".encode()))
+        self.assertEqual(ran, Ran(3, b"", fault.format(self.path("file"), "Not a directory (os error 20)").encode()))
 
     def test_two_relays_and_one_directory(self):
         """The second is refused; once the first has ended, another one may begin."""

@@ -79,7 +79,7 @@ class Orderly(WithEnds):
                 took = time.monotonic() - began
                 self.is_sent(relay, store, FILE)
                 self.assertEqual([bytes(taken) for taken in store.taken], [TEXT, LIVE + b"\n"])
-                self.wait_for(lambda: log.of(dest) == [b"connected", b"spool sent"], "the log says so")
+                self.wait_for(lambda: log.of(dest)[1:] == [b"connected", b"spool sent"], "the log says so")
                 self.assertEqual(self.ended(relay, log), [])
             return took
 

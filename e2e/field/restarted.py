@@ -336,7 +336,7 @@ class Restarted(Field):
 
     def test_frozen(self):
         """Nor where the relay had no processor for a second: it reads what waits."""
-        self.holds(RESTARTS, frozen=FROZEN)
+        self.holds(LONGER if Settings.longer else RESTARTS, frozen=FROZEN)
 
     def test_a_store_that_is_away(self):
         """What is queued for it outlives the restart, and comes once and in order after its own return."""

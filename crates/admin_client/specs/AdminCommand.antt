@@ -1,11 +1,12 @@
 -- What the bytes of an admin connection ask for.
-use Rattle.std.specs.Prelude.{ℕ, ◌==◌, Bool, List, Option, None, Some, take, codes, if◌then◌else◌}
+use Rattle.std.specs.Prelude.{ℕ, ◌==◌, Bool, List, Option, None, Some, take, length, nat_le, codes, if◌then◌else◌}
 use Rattle.std.specs.List.{position}
 use Rattle.std.specs.Str.{bytes_eq}
 use Rattle.std.specs.Io.BufRead.{strip_last}
 use Rattle.relay_base.specs.Ascii.{newline, carriage_return}
+use Rattle.admin_client.specs.ReloadAnswer.{behind}
 use Rattle.admin_client.specs.declared.admin_command.AdminCommand.{AdminCommand}
-use Rattle.admin_client.specs.declared.admin_command.AdminCommand.TheVariants.{Report, Stop, Reload, Files}
+use Rattle.admin_client.specs.declared.admin_command.AdminCommand.TheVariants.{Report, Stop, Reload, Files, Route}
 
 -- a newline ends the first line
 abbrev pub is_newline : ℕ → Bool
@@ -24,14 +25,32 @@ first_line sent = up_to (position is_newline sent) sent
 abbrev pub command_text : List ℕ → List ℕ
 command_text sent = strip_last carriage_return (first_line sent)
 
+-- a name, if it is not too long to be asked for
+abbrev pub short_enough : Option (List ℕ) → Option (List ℕ)
+short_enough None = None
+short_enough (Some name) = if nat_le (length name) 4096 then Some name else None
+
+-- the name in a text that asks where it goes, if it does
+abbrev pub routed_by : List ℕ → Option (List ℕ)
+routed_by text = short_enough (behind (codes "route ") text)
+
+-- to ask where a name goes is a command
+abbrev pub route_of : Option (List ℕ) → Option AdminCommand
+route_of None = None
+route_of (Some name) = Some Route
+
 -- the command of a text, if it is one
 abbrev pub command_of : List ℕ → Option AdminCommand
 command_of text =
     if bytes_eq text (codes "report") then Some Report
     else (if bytes_eq text (codes "stop") then Some Stop
     else (if bytes_eq text (codes "reload") then Some Reload
-    else (if bytes_eq text (codes "files") then Some Files else None)))
+    else (if bytes_eq text (codes "files") then Some Files else route_of (routed_by text))))
 
 -- the command that was sent, if it is one
 abbrev pub command_in : List ℕ → Option AdminCommand
 command_in sent = command_of (command_text sent)
+
+-- the name of which was asked where it goes, if that was sent
+abbrev pub routed_name : List ℕ → Option (List ℕ)
+routed_name sent = routed_by (command_text sent)

@@ -51,12 +51,13 @@ abbrev pub asked_in : Option (List ℕ) → List ℕ → Asked
 asked_in None sent = asked_of (command_in sent)
 asked_in (Some key) sent = keyed key (key_given sent) sent
 
--- the line of a command
-abbrev pub line_of : AdminCommand → List ℕ
-line_of command.Report = codes "report\n"
-line_of command.Stop = codes "stop\n"
-line_of command.Reload = codes "reload\n"
-line_of command.Files = codes "files\n"
+-- the words of a command, behind which the name comes that it asks for, if it does
+abbrev pub words_of : AdminCommand → List ℕ
+words_of command.Report = codes "report"
+words_of command.Stop = codes "stop"
+words_of command.Reload = codes "reload"
+words_of command.Files = codes "files"
+words_of command.Route = codes "route "
 
 -- the line of a key, if there is one
 abbrev pub key_line : Option (List ℕ) → List ℕ
@@ -64,5 +65,5 @@ key_line None = []
 key_line (Some key) = codes "key " ++ key ++ codes "\n"
 
 -- what a client sends
-abbrev pub request_of : Option (List ℕ) → AdminCommand → List ℕ
-request_of key command = key_line key ++ line_of command
+abbrev pub request_of : Option (List ℕ) → AdminCommand → (name : List ℕ) → List ℕ
+request_of key command name = key_line key ++ words_of command ++ name ++ codes "\n"

@@ -1,6 +1,8 @@
 pub mod AdminCommand
 pub mod AdminKey
 pub mod ReloadAnswer
+pub mod RouteAnswer
+pub mod RouteText
 pub mod ReloadText
 pub mod FilesAnswer
 pub mod ReloadNames

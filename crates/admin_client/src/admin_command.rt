@@ -1,14 +1,22 @@
 //! The commands of the admin port, and the answers that are always the same.
 
-ghost use Rattle.std.specs.Prelude.{◌≡◌};
+ghost use Rattle.std.specs.Prelude.{◌≡◌, ◌<◌, ◌≤◌, None, Some, length, MatchOption};
 ghost use Rattle.std.specs.List.{position};
 ghost use Rattle.std.specs.Io.BufRead.{strip_last};
 ghost use Rattle.relay_base.specs.Ascii.{carriage_return};
-ghost use Rattle.admin_client.specs.AdminCommand.{is_newline, first_line, command_text, command_of, command_in};
-ghost use Rattle.admin_client.specs.AdminKey.{line_of};
+ghost use Rattle.admin_client.specs.AdminCommand.{is_newline, first_line, command_text, command_of, command_in, routed_by, routed_name};
+ghost use Rattle.admin_client.specs.AdminKey.{words_of};
+
+use crate::reload_answer::behind;
 
 /// How many bytes the text of a command has at most; a longer one is none.
-pub const LONGEST_COMMAND: usize = 64;
+pub const LONGEST_COMMAND: usize = LONGEST_ROUTED + 6;
+
+/// How many bytes a name has at most that is asked for.
+pub const LONGEST_ROUTED: usize = 4_096;
+
+/// The words before a name that is asked for.
+const ROUTE: &[u8] = b"route ";
 
 /// The answer to `stop`.
 pub const STOPPING: &[u8] = b"stopping\n";
@@ -27,18 +35,21 @@ pub enum AdminCommand {
     Reload,
     /// Which files those are.
     Files,
+    /// Where the relay sends a metric of the name behind the word.
+    Route,
 }
 
 impl AdminCommand {
-    /// The line that asks for it.
-    pub(crate) fn line(self) -> &'static [u8]
-        ensures { result.now ≡ line_of self }
+    /// The words that ask for it; behind those of `Route` comes a name.
+    pub(crate) fn words(self) -> &'static [u8]
+        ensures { result.now ≡ words_of self }
     {
         match self {
-            AdminCommand::Report => b"report\n".as_slice(),
-            AdminCommand::Stop => b"stop\n".as_slice(),
-            AdminCommand::Reload => b"reload\n".as_slice(),
-            AdminCommand::Files => b"files\n".as_slice(),
+            AdminCommand::Report => b"report".as_slice(),
+            AdminCommand::Stop => b"stop".as_slice(),
+            AdminCommand::Reload => b"reload".as_slice(),
+            AdminCommand::Files => b"files".as_slice(),
+            AdminCommand::Route => ROUTE,
         }
     }
 }
@@ -70,9 +81,32 @@ fn command_of(text: &[u8]) -> Option<AdminCommand>
         Some(AdminCommand::Reload)
     } else if text == b"files".as_slice() {
         Some(AdminCommand::Files)
+    } else if routed_by(text).is_some() {
+        Some(AdminCommand::Route)
     } else {
         None
     }
+}
+
+/// The name in a text that asks where it goes, if it does and the name is not too long. Whether it is a metric name is not
+/// looked at.
+fn routed_by(text: &[u8]) -> Option<&[u8]>
+    ensures { MatchOption result (routed_by text.now ≡ None)
+        (λ name. routed_by text.now ≡ Some name.now) }
+{
+    let name = behind(ROUTE, text)?;
+    if name.len() > LONGEST_ROUTED {
+        return None;
+    }
+    Some(name)
+}
+
+/// The name of which was asked where it goes, if that was sent.
+pub fn routed_name(sent: &[u8]) -> Option<&[u8]>
+    ensures { MatchOption result (routed_name sent.now ≡ None)
+        (λ name. routed_name sent.now ≡ Some name.now) }
+{
+    routed_by(first_line_of(sent))
 }
 
 /// The bytes up to the first byte 10, or all.

@@ -5,7 +5,7 @@ use std::io::ErrorKind;
 use thiserror::Error;
 
 /// Why a command was not carried out. Its text is what follows `relayd: admin: ` and the address on standard error; that of
-/// `Output` and `NoMemory` follows `relayd: `.
+/// `Output` and `NoMemory` follows `relayd: `, and that of `LongName` `relayd: name: `.
 #[derive(Clone, Copy, Debug, Error)]
 pub enum AdminFault {
     /// Nothing listens at the port, or the system refused a connection.
@@ -32,6 +32,9 @@ pub enum AdminFault {
     /// The relay took `stop`, and has not ended within a day.
     #[error("still running")]
     StillRunning,
+    /// A name has more than [`LONGEST_ROUTED`](crate::LONGEST_ROUTED) bytes.
+    #[error("more than 4096 bytes")]
+    LongName,
     /// The output could not be written.
     #[error("output")]
     Output,

@@ -1,6 +1,6 @@
 //! The key of an admin port, and the commands that come with one.
 
-ghost use Rattle.std.specs.Prelude.{◌≡◌, ◌≤◌, None, Some, length, option_map, IfOk, IfSome, MatchOption};
+ghost use Rattle.std.specs.Prelude.{◌≡◌, ◌<◌, ◌≤◌, ◌⊎◌, None, Some, length, option_map, IfOk, MatchOption};
 ghost use Rattle.std.specs.Str.{bytes_eq};
 ghost use Rattle.admin_client.specs.AdminCommand.{command_text};
 ghost use Rattle.admin_client.specs.AdminKey.{after_line, key_given, behind_key, asked_of, without_key, asked_in, request_of};
@@ -35,7 +35,9 @@ pub enum Asked {
 
 /// The key in a file: its first line, without one byte 13 at the end; `None` if that has not as many bytes as a key.
 pub fn key_in(file: &[u8]) -> Option<&[u8]>
-    ensures { IfSome result (λ key. (key.now ≡ command_text file.now) × (LEAST_KEY ≤ length key.now) × (length key.now ≤ LONGEST_KEY)) }
+    ensures { MatchOption result
+        ((length (command_text file.now) < LEAST_KEY) ⊎ (LONGEST_KEY < length (command_text file.now)))
+        (λ key. (key.now ≡ command_text file.now) × (LEAST_KEY ≤ length key.now) × (length key.now ≤ LONGEST_KEY)) }
 {
     let line = first_line_of(file);
     if line.len() < LEAST_KEY || line.len() > LONGEST_KEY {
@@ -120,13 +122,16 @@ fn is_same(given: &[u8], key: &[u8]) -> bool
     is_same
 }
 
-/// What a client sends for a command, with this key, or without one. Refuses if out of memory.
+/// What a client sends for a command and the name that it asks for, or an empty one, with this key, or without one. Refuses if
+/// out of memory.
 pub(crate) fn request_of(
     alloc: Global,
     key: Option<&[u8]>,
     command: AdminCommand,
+    name: &[u8],
 ) -> Result<Vec<u8>, NoMemory>
-    ensures { IfOk result (λ sent. sent.items ≡ request_of (option_map (λ k. k.now) key.entry) command) }
+    ensures { IfOk result (λ sent. sent.items
+        ≡ request_of (option_map (λ k. k.now) key.entry) command name.now) }
 {
     let mut sent = Vec::new(alloc);
     if let Some(key) = key {
@@ -134,6 +139,8 @@ pub(crate) fn request_of(
         sent.extend_from_slice(key)?;
         sent.extend_from_slice(b"\n")?;
     }
-    sent.extend_from_slice(command.line())?;
+    sent.extend_from_slice(command.words())?;
+    sent.extend_from_slice(name)?;
+    sent.extend_from_slice(b"\n")?;
     Ok(sent)
 }

@@ -1,5 +1,8 @@
 //! Commands for a running relay.
 
+ghost use Rattle.std.specs.Prelude.{◌≡◌, ◌⊎◌, true, IfOk, IfErr};
+ghost use Rattle.admin_client.specs.AdminAnswer.{IsAnswerTo, is_whole};
+
 use crate::admin_command::AdminCommand;
 use crate::admin_fault::AdminFault;
 use crate::admin_key::request_of;
@@ -42,11 +45,28 @@ pub fn ask<R: Net + Clock, W: Write>(
     relay: RelayAt<'_>,
     command: AdminCommand,
     output: &mut W,
-) -> Result<(), AdminFault> {
+) -> Result<(), AdminFault>
+    ensures refused { IfErr result (λ fault. (fault ≡ AdminFault.Output) ⊎ (output.new ≡ output.old)) }
+{
     let answer = answer_to(rt, alloc, relay, command)?;
     let written = write_answer(answer.as_slice(), output);
     drop(answer);
     written
+}
+
+/// Asks a relay where it sends a metric of this name, and returns its answer, which `route_answer_in` reads. It refuses what
+/// [`answer_to`] refuses, and a name that is none, or that has more than [`LONGEST_ROUTED`](crate::LONGEST_ROUTED) bytes
+/// (`UnknownCommand`).
+pub fn route_answer_to<R: Net + Clock>(
+    rt: &R,
+    alloc: Global,
+    relay: RelayAt<'_>,
+    name: &[u8],
+) -> Result<Vec<u8>, AdminFault>
+    ensures ok { IfOk result (λ answer. IsAnswerTo AdminCommand.Route answer.items) }
+    ensures whole { IfOk result (λ answer. is_whole answer.items ≡ true) }
+{
+    answer_about(rt, alloc, relay, AdminCommand::Route, name)
 }
 
 /// Sends a command to a relay, and returns its answer. That to `reload` may take about a minute, and `reload_answer_in` reads
@@ -59,23 +79,44 @@ pub fn answer_to<R: Net + Clock>(
     alloc: Global,
     relay: RelayAt<'_>,
     command: AdminCommand,
-) -> Result<Vec<u8>, AdminFault> {
-    match answer_once(rt, alloc, relay, command) {
+) -> Result<Vec<u8>, AdminFault>
+    ensures ok { IfOk result (λ answer. IsAnswerTo command answer.items) }
+    ensures whole { IfOk result (λ answer. is_whole answer.items ≡ true) }
+{
+    answer_about(rt, alloc, relay, command, &[])
+}
+
+/// Sends a command about a name, or about an empty one, to a relay, and returns its answer.
+fn answer_about<R: Net + Clock>(
+    rt: &R,
+    alloc: Global,
+    relay: RelayAt<'_>,
+    command: AdminCommand,
+    name: &[u8],
+) -> Result<Vec<u8>, AdminFault>
+    ensures ok { IfOk result (λ answer. IsAnswerTo command answer.items) }
+    ensures whole { IfOk result (λ answer. is_whole answer.items ≡ true) }
+{
+    match answer_once(rt, alloc, relay, command, name) {
         Err(AdminFault::UnknownCommand) if relay.key.is_some() => {
-            answer_once(rt, alloc, relay.without_key(), command)
+            answer_once(rt, alloc, relay.without_key(), command, name)
         }
         asked => asked,
     }
 }
 
-/// Sends a command to a relay once, and returns its answer.
+/// Sends a command about a name to a relay once, and returns its answer.
 fn answer_once<R: Net + Clock>(
     rt: &R,
     alloc: Global,
     relay: RelayAt<'_>,
     command: AdminCommand,
-) -> Result<Vec<u8>, AdminFault> {
-    let request = request_of(alloc, relay.key, command)?;
+    name: &[u8],
+) -> Result<Vec<u8>, AdminFault>
+    ensures ok { IfOk result (λ answer. IsAnswerTo command answer.items) }
+    ensures whole { IfOk result (λ answer. is_whole answer.items ≡ true) }
+{
+    let request = request_of(alloc, relay.key, command, name)?;
     let asked = match connect(rt, relay.port) {
         Ok(mut stream) => {
             let asked = exchange(rt, alloc, &mut stream, command, request.as_slice());
@@ -113,7 +154,7 @@ fn stop_once<R: Net + Clock, W: Write>(
     relay: RelayAt<'_>,
     output: &mut W,
 ) -> Result<(), AdminFault> {
-    let request = request_of(alloc, relay.key, AdminCommand::Stop)?;
+    let request = request_of(alloc, relay.key, AdminCommand::Stop, &[])?;
     let ended = send_stop(rt, alloc, relay.port, request.as_slice(), output);
     drop(request);
     ended
@@ -161,7 +202,9 @@ fn write_and_wait<S: Read + OpenStream, W: Write>(
 }
 
 /// Writes an answer to the output.
-fn write_answer<W: Write>(answer: &[u8], output: &mut W) -> Result<(), AdminFault> {
+fn write_answer<W: Write>(answer: &[u8], output: &mut W) -> Result<(), AdminFault>
+    ensures refused { IfErr result (λ fault. fault ≡ AdminFault.Output) }
+{
     if output.write_all(answer).is_err() || output.flush().is_err() {
         return Err(AdminFault::Output);
     }

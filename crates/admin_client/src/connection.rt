@@ -1,5 +1,8 @@
 //! A command and its answer on a connection.
 
+ghost use Rattle.std.specs.Prelude.{◌≡◌, true, IfOk};
+ghost use Rattle.admin_client.specs.AdminAnswer.{IsAnswerTo, is_whole};
+
 use crate::admin_answer::check_answer;
 use crate::admin_command::AdminCommand;
 use crate::admin_fault::AdminFault;
@@ -32,7 +35,10 @@ pub(crate) fn exchange<R: Clock, S: Read + Write + OpenStream>(
     stream: &mut S,
     command: AdminCommand,
     request: &[u8],
-) -> Result<Vec<u8>, AdminFault> {
+) -> Result<Vec<u8>, AdminFault>
+    ensures ok { IfOk result (λ answer. IsAnswerTo command answer.items) }
+    ensures whole { IfOk result (λ answer. is_whole answer.items ≡ true) }
+{
     if send(stream, request).is_err() {
         return Err(AdminFault::NoAnswer);
     }

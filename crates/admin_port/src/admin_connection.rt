@@ -4,7 +4,7 @@ ghost use Rattle.std.specs.Prelude.{◌≤◌, length};
 
 use admin_client::{
     AdminCommand, Asked, LONGEST_COMMAND, LONGEST_KEY, RELOADED, STOPPING, UNKNOWN_COMMAND,
-    WRONG_KEY, asked_in, behind_key,
+    WRONG_KEY, asked_in, behind_key, routed_name,
 };
 use mio::net::TcpStream;
 use mio_loops::exchange::{MOST_TRIES, PATIENCE_MS, Transfer, read_away};
@@ -83,7 +83,7 @@ pub(crate) enum Answer {
     Reloaded,
     /// There is no memory for a reload.
     NoMemory,
-    /// The counts of each destination's queue, or what became of a reload.
+    /// The counts of each destination's queue, what became of a reload, or where a name goes.
     Text(Vec<u8>),
 }
 
@@ -183,6 +183,11 @@ impl AdminConnection {
     /// Whether it may wait for as long as it does: for the end of the relay, or for that of a reload.
     fn may_wait(&self) -> bool {
         self.is_left_alone() || matches!(self.stage, AdminStage::Asking | AdminStage::Pending)
+    }
+
+    /// The name of which it has asked where that goes.
+    pub(crate) fn routed_name(&self) -> Option<&[u8]> {
+        routed_name(behind_key(&self.room[..self.count.min(COMMAND_ROOM)]))
     }
 
     /// Whether it has asked for a reload, which has not begun.

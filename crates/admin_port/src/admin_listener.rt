@@ -37,6 +37,9 @@ pub trait Answers<R> {
     /// The answer to `files`. Refuses if out of memory.
     fn files(&self, alloc: Global) -> Result<Vec<u8>, NoMemory>;
 
+    /// The answer to `route` with this text as the name; an empty one if it is no metric name. Refuses if out of memory.
+    fn route(&mut self, alloc: Global, name: &[u8]) -> Result<Vec<u8>, NoMemory>;
+
     /// The key that each command needs, if there is one.
     fn key(&self) -> Option<&[u8]>;
 }
@@ -107,7 +110,7 @@ impl AdminListener {
         &mut self,
         rt: &R,
         alloc: Global,
-        answers: &A,
+        answers: &mut A,
         millis: u64,
         pause: u64,
     ) -> bool {
@@ -251,7 +254,7 @@ impl AdminListener {
         &mut self,
         rt: &R,
         alloc: Global,
-        answers: &A,
+        answers: &mut A,
         millis: u64,
     ) -> bool {
         let mut is_stopped = false;
@@ -499,7 +502,7 @@ fn go_on<R, A: Answers<R>>(
     connection: &mut AdminConnection,
     rt: &R,
     alloc: Global,
-    answers: &A,
+    answers: &mut A,
     millis: u64,
     refusals: &mut Refusals,
 ) -> Progress {
@@ -507,7 +510,7 @@ fn go_on<R, A: Answers<R>>(
     let Progress::Asks(asked) = progress else {
         return progress;
     };
-    let Some(answer) = answer_to(rt, alloc, answers, asked) else {
+    let Some(answer) = answer_to(connection, rt, alloc, answers, asked) else {
         return Progress::Over;
     };
     connection.begin_answer(answer, millis);
@@ -519,8 +522,14 @@ fn go_on<R, A: Answers<R>>(
     }
 }
 
-/// The answer to what is asked; `None` if there is no memory for it.
-fn answer_to<R, A: Answers<R>>(rt: &R, alloc: Global, answers: &A, asked: Asked) -> Option<Answer> {
+/// The answer to what a connection asks for; `None` if there is no memory for it.
+fn answer_to<R, A: Answers<R>>(
+    connection: &AdminConnection,
+    rt: &R,
+    alloc: Global,
+    answers: &mut A,
+    asked: Asked,
+) -> Option<Answer> {
     let command = match asked {
         Asked::Command(command) => command,
         Asked::Unknown => return Some(Answer::UnknownCommand),
@@ -531,13 +540,22 @@ fn answer_to<R, A: Answers<R>>(rt: &R, alloc: Global, answers: &A, asked: Asked)
             Ok(report) => Some(Answer::Text(report)),
             Err(_) => None,
         },
-        AdminCommand::Files => match answers.files(alloc) {
-            Ok(names) if names.is_empty() => Some(Answer::UnknownCommand),
-            Ok(names) => Some(Answer::Text(names)),
-            Err(_) => None,
+        AdminCommand::Files => text_or_unknown(answers.files(alloc)),
+        AdminCommand::Route => match connection.routed_name() {
+            Some(name) => text_or_unknown(answers.route(alloc, name)),
+            None => Some(Answer::UnknownCommand),
         },
         AdminCommand::Stop => Some(Answer::Stopping),
         // A connection that asks for a reload waits for its answer elsewhere.
         AdminCommand::Reload => Some(Answer::UnknownCommand),
+    }
+}
+
+/// The answer of this text; an empty one answers no command. `None` if there is no memory for it.
+fn text_or_unknown(text: Result<Vec<u8>, NoMemory>) -> Option<Answer> {
+    match text {
+        Ok(text) if text.is_empty() => Some(Answer::UnknownCommand),
+        Ok(text) => Some(Answer::Text(text)),
+        Err(_) => None,
     }
 }

@@ -1,1 +1,2 @@
+pub mod FileReport
 pub mod ReportText

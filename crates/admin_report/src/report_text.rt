@@ -45,7 +45,7 @@ fn push_line(text: &mut String, dest: &Dest, counts: &Counts) -> Result<(), Allo
 }
 
 /// Adds what a queue has counted.
-fn push_counts(text: &mut String, counts: &Counts) -> Result<(), AllocError>
+pub(crate) fn push_counts(text: &mut String, counts: &Counts) -> Result<(), AllocError>
     ensures { OnOk result
         (string_bytes text.new ≡ string_bytes text.old ++ count_words counts.now) }
 {

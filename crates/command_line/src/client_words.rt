@@ -1,8 +1,8 @@
-//! The words of the commands for a running relay: `report`, `stop`, `restart` and `reload`.
+//! The words of the commands for a running relay: `report`, `stop`, `restart` and `reload`; and of the relay that `route` asks.
 
 use crate::commands::{EXPLAIN, FILES, JSON};
 use crate::long_help::{RELOAD_HELP, REPORT_HELP, RESTART_HELP, STOP_HELP};
-use crate::options::path_option;
+use crate::options::{check_paths, path_option};
 use crate::words::{CommandWords, Form, Word};
 use clap::{ArgMatches, Error};
 use relay_base::whole_number_up_to;
@@ -16,7 +16,7 @@ pub(crate) static REPORT: CommandWords = CommandWords {
     long_help: REPORT_HELP,
     files: &[],
     words: &[ADMIN, ADMIN_KEY, JSON],
-    choice: None,
+    choices: &[],
 };
 
 /// The words that `relayd stop` takes.
@@ -35,7 +35,7 @@ pub(crate) static STOP: CommandWords = CommandWords {
             help: "Waits until the relay has ended",
         },
     ],
-    choice: None,
+    choices: &[],
 };
 
 /// The words that `relayd restart` takes.
@@ -46,7 +46,7 @@ pub(crate) static RESTART: CommandWords = CommandWords {
     long_help: RESTART_HELP,
     files: FILES,
     words: &[EXPLAIN, ADMIN, ADMIN_KEY],
-    choice: None,
+    choices: &[],
 };
 
 /// The words that `relayd reload` takes. The relay reads the files again that it began with.
@@ -57,7 +57,7 @@ pub(crate) static RELOAD: CommandWords = CommandWords {
     long_help: RELOAD_HELP,
     files: &[],
     words: &[EXPLAIN, ADMIN, ADMIN_KEY],
-    choice: None,
+    choices: &[],
 };
 
 const ADMIN: Word = Word {
@@ -86,10 +86,23 @@ pub(crate) fn admin_at(
     options: &ArgMatches<'_>,
     command: &CommandWords,
 ) -> Result<AdminAt, Error> {
+    check_paths(alloc, options, command)?;
     Ok(AdminAt {
         port: client_port(alloc, options, command)?,
         key: path_option(alloc, options, "admin-key")?,
     })
+}
+
+/// The admin port among the words of one of these commands, if it is given.
+pub(crate) fn admin_option(
+    alloc: Global,
+    options: &ArgMatches<'_>,
+    command: &CommandWords,
+) -> Result<Option<AdminAt>, Error> {
+    match options.get_str("admin") {
+        Some(_) => Ok(Some(admin_at(alloc, options, command)?)),
+        None => Ok(None),
+    }
 }
 
 /// The port of `--admin` among these words.

@@ -77,7 +77,7 @@ pub(crate) static PASS: CommandWords = CommandWords {
             help: "The time, in seconds, for datapoints whose time is -1, 0 to 9007199254740992",
         },
     ],
-    choice: None,
+    choices: &[],
 };
 
 /// The words that `relayd check` takes.
@@ -105,7 +105,7 @@ pub(crate) static CHECK: CommandWords = CommandWords {
             help: "With --explain: prints the notes, an object of JSON a line",
         },
     ],
-    choice: None,
+    choices: &[],
 };
 
 /// The words that `relayd route` takes.
@@ -114,8 +114,39 @@ pub(crate) static ROUTE: CommandWords = CommandWords {
     full_name: "relayd route",
     about: "Shows which destinations metrics go to, and under which names",
     long_help: ROUTE_HELP,
-    files: FILES,
+    files: &[
+        Word {
+            name: "config",
+            form: Form::Value("FILE"),
+            help: "The configuration file, with the section [relay]",
+        },
+        Word {
+            name: "rules",
+            form: Form::ValueWithout("FILE", "admin"),
+            help: "The relay rules; RELAY_METHOD = rules needs them",
+        },
+        Word {
+            name: "rewrite",
+            form: Form::ValueWithout("FILE", "admin"),
+            help: "The rewrite rules; without them no name changes",
+        },
+        Word {
+            name: "longest-name",
+            form: Form::ValueWithout("N", "admin"),
+            help: "Drops datapoints whose names have more than N characters, 1 to 4000",
+        },
+    ],
     words: &[
+        Word {
+            name: "admin",
+            form: Form::Value("PORT"),
+            help: "Asks the running relay with this admin port instead, 1 to 65535",
+        },
+        Word {
+            name: "admin-key",
+            form: Form::ValueWithout("FILE", "config"),
+            help: "A file of mode 600 or 640 whose first line is the key of the admin port",
+        },
         Word {
             name: "names",
             form: Form::Value("FILE"),
@@ -130,10 +161,16 @@ pub(crate) static ROUTE: CommandWords = CommandWords {
             help: "The name of a metric as a producer sends it",
         },
     ],
-    choice: Some(Choice {
-        name: "which",
-        words: ["names", "name"],
-    }),
+    choices: &[
+        Choice {
+            name: "where",
+            words: ["config", "admin"],
+        },
+        Choice {
+            name: "which",
+            words: ["names", "name"],
+        },
+    ],
 };
 
 /// The words that `relayd replay` takes.
@@ -162,10 +199,10 @@ pub(crate) static REPLAY: CommandWords = CommandWords {
             help: "A script of events, one per line",
         },
     ],
-    choice: Some(Choice {
+    choices: &[Choice {
         name: "what",
         words: ["lines", "script"],
-    }),
+    }],
 };
 
 /// The words that `relayd run` takes.
@@ -234,7 +271,7 @@ pub(crate) static RUN: CommandWords = CommandWords {
         },
         EXPLAIN,
     ],
-    choice: None,
+    choices: &[],
 };
 
 /// The files of a configuration, for a command that reads them, and the limit of the names that rewriting leaves.

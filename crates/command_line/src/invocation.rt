@@ -1,6 +1,6 @@
 //! What the words of a command line ask for.
 
-use crate::client_words::{AdminAt, RELOAD, REPORT, RESTART, STOP, admin_at};
+use crate::client_words::{AdminAt, RELOAD, REPORT, RESTART, STOP, admin_at, admin_option};
 use crate::commands::{CHECK, REPLAY, ROUTE, RUN, relayd_command};
 use crate::explain::Explain;
 use crate::options::{explain_option, moment_option, path_option, path_options, text_option};
@@ -64,6 +64,13 @@ pub enum Invocation {
         output: RouteOutput,
         explain: Explain,
     },
+    /// `route --admin`: where the relay with this admin port sends metrics.
+    LiveRoute {
+        admin: AdminAt,
+        asked: AskedNames,
+        output: RouteOutput,
+        explain: Explain,
+    },
     /// `run`: a relay of these files, the file of its admin port's key, the path of its record, and the directory of its spool,
     /// if any.
     Run {
@@ -95,6 +102,15 @@ pub enum Invocation {
         admin: AdminAt,
         explain: Explain,
     },
+}
+
+/// The metrics of which `route` asks where they go.
+#[derive(Drop)]
+pub enum AskedNames {
+    /// That of this name.
+    Name(String),
+    /// Those of the names in this file.
+    File(String),
 }
 
 /// What these words ask for.
@@ -208,6 +224,9 @@ fn route_invocation(alloc: Global, options: &ArgMatches<'_>) -> Result<Invocatio
     check_inputs(alloc, options, &ROUTE, ROUTE_FILES)?;
     let explain = explain_option(options, false);
     let output = route_output(options);
+    if let Some(admin) = admin_option(alloc, options, &ROUTE)? {
+        return live_route_invocation(alloc, options, admin);
+    }
     match path_option(alloc, options, "names")? {
         Some(names) => Ok(Invocation::RouteNames {
             names,
@@ -222,6 +241,23 @@ fn route_invocation(alloc: Global, options: &ArgMatches<'_>) -> Result<Invocatio
             explain,
         }),
     }
+}
+
+fn live_route_invocation(
+    alloc: Global,
+    options: &ArgMatches<'_>,
+    admin: AdminAt,
+) -> Result<Invocation, Error> {
+    let asked = match path_option(alloc, options, "names")? {
+        Some(names) => AskedNames::File(names),
+        None => AskedNames::Name(text_option(alloc, options, "name")?),
+    };
+    Ok(Invocation::LiveRoute {
+        admin,
+        asked,
+        output: route_output(options),
+        explain: explain_option(options, false),
+    })
 }
 
 fn replay_invocation(alloc: Global, options: &ArgMatches<'_>) -> Result<Invocation, Error> {

@@ -30,7 +30,7 @@ mod words;
 pub use client_words::AdminAt;
 pub use commands::VERSION;
 pub use explain::Explain;
-pub use invocation::{Invocation, parse_words};
+pub use invocation::{AskedNames, Invocation, parse_words};
 pub use log_form::LogForm;
 pub use output_form::{OutputForm, RouteOutput};
 pub use pass_input::PassInput;

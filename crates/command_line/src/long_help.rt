@@ -47,11 +47,14 @@ pub const ROUTE_HELP: &str = "Examples:
     relayd route --config relay.conf --names names.txt
     cut -d ' ' -f 1 lines.txt | relayd route --config relay.conf --names - --strict
     relayd route --config relay.conf --names names.txt --json
+    relayd route --admin 2015 servers.web1.cpu.load
 
-It prints the name, the new name if rewriting changes it, and the destinations.
+It prints the name, the new name if rewriting changes it, and the destinations. With --admin it
+reads no files of a configuration: a running relay answers, by those of its last reload.
 
 Exit status: 0 success, even if some names of a file are bad; 1 the files or NAME have a fault or,
-with --strict, a name is bad, is dropped or goes nowhere; 3 a file cannot be read.";
+with --strict, a name is bad, is dropped or goes nowhere; 3 a file cannot be read, or no relay
+listens on the port.";
 
 /// Of `relayd replay`.
 pub const REPLAY_HELP: &str = "Examples:

@@ -3,7 +3,8 @@
 use crate::commands::PASS;
 use crate::explain::Explain;
 use crate::paths::Paths;
-use crate::words::CommandWords;
+use crate::words::{CommandWords, Form, Word};
+use clap::error::ErrorKind;
 use clap::{ArgMatches, Error};
 use line_text::Moment;
 use pass_lines::moment_of;
@@ -71,6 +72,51 @@ pub fn path_option(
     match options.get_str(option) {
         Some(path) => Ok(Some(String::from_str(alloc, path)?)),
         None => Ok(None),
+    }
+}
+
+/// Refuses an option of a command that names an empty path, as one has from a variable that is not set.
+pub(crate) fn check_paths(
+    alloc: Global,
+    options: &ArgMatches<'_>,
+    command: &CommandWords,
+) -> Result<(), Error> {
+    for words in [command.files, command.words] {
+        for word in words {
+            check_path(alloc, options, command, *word)?;
+        }
+    }
+    Ok(())
+}
+
+fn check_path(
+    alloc: Global,
+    options: &ArgMatches<'_>,
+    command: &CommandWords,
+    word: Word,
+) -> Result<(), Error> {
+    let Some(kind) = path_kind(word.form) else {
+        return Ok(());
+    };
+    match options.get_str(word.name) {
+        Some("") => {
+            let message = format!(in alloc;
+                "invalid value '' for '--{} <{kind}>': an empty path",
+                word.name
+            )?;
+            Err(command.error(alloc, ErrorKind::InvalidValue, message.as_str())?)
+        }
+        _ => Ok(()),
+    }
+}
+
+/// What the help calls the value of an option, if that is a path.
+fn path_kind(form: Form) -> Option<&'static str> {
+    match form {
+        Form::Value(kind) | Form::NeededValue(kind) | Form::ValueWith(kind, _) => {
+            matches!(kind, "FILE" | "DIR").then_some(kind)
+        }
+        _ => None,
     }
 }
 

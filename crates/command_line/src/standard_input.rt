@@ -1,5 +1,6 @@
 //! Standard input in place of a file.
 
+use crate::options::check_paths;
 use crate::words::CommandWords;
 use clap::error::ErrorKind;
 use clap::{ArgMatches, Error};
@@ -54,13 +55,14 @@ pub(crate) const ROUTE_FILES: &[FileWord] = &[CONFIG, RULES, REWRITE, NAMES];
 /// The files of `replay`.
 pub(crate) const REPLAY_FILES: &[FileWord] = &[CONFIG, RULES, REWRITE, LINES, SCRIPT];
 
-/// Refuses options of a command that name standard input for two of these files.
+/// Refuses options of a command that name an empty path, or standard input for two of these files.
 pub(crate) fn check_inputs(
     alloc: Global,
     options: &ArgMatches<'_>,
     command: &CommandWords,
     files: &[FileWord],
 ) -> Result<(), Error> {
+    check_paths(alloc, options, command)?;
     let mut first: Option<FileWord> = None;
     for file in files {
         if !is_standard_input(options, file.name) {

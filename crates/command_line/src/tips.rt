@@ -1,7 +1,7 @@
 //! Tips for words that other programs take: what `relayd` has in place of them.
 
-use crate::client_words::RELOAD;
-use crate::commands::{PASS, RUN};
+use crate::client_words::{RELOAD, REPORT};
+use crate::commands::{CHECK, PASS, RUN};
 use crate::words::CommandWords;
 use clap::Error;
 use clap::error::ErrorKind;
@@ -11,6 +11,14 @@ const STAYS: &str =
     "'relayd run' stays in the foreground; a supervisor such as systemd keeps it in the background";
 
 const STARTS: &str = "'relayd run' starts the relay, and stays in the foreground";
+
+const REPORTS: &str =
+    "'relayd report' prints the counts of a running relay; 'relayd run --status PORT' serves a page";
+
+const TAKES_OPTIONS: &str =
+    "each file has its option, such as --config FILE; --log takes none, and writes to standard error";
+
+const NAMES_COMMAND: &str = "options come after a command: relayd check --config FILE";
 
 const READS: &str = "'relayd pass' reads standard input: relayd pass < ";
 
@@ -26,10 +34,10 @@ struct Tip<'a> {
 }
 
 impl Tip<'_> {
-    /// A tip of `relayd run`.
-    fn of_run(text: &'static str) -> Tip<'static> {
+    /// A tip whose error shows the usage of this command.
+    fn of(command: &'static CommandWords, text: &'static str) -> Tip<'static> {
         Tip {
-            command: &RUN,
+            command,
             text,
             file: "",
         }
@@ -76,30 +84,67 @@ fn error_of(
 
 /// The tip for a command that was refused for a reason.
 fn tip_of<'a>(command: &str, reason: &'a str) -> Option<Tip<'a>> {
-    match (command, reason) {
-        ("run" | "", "unexpected argument '--daemon' found" | "unexpected argument '-d' found") =>
-            Some(Tip::of_run(STAYS)),
-        ("start", "unrecognized subcommand 'start'") => Some(Tip::of_run(STARTS)),
-        ("reload", _) => tip_of_reload(reason),
-        ("pass", _) => Some(Tip {
-            command: &PASS,
-            text: READS,
-            file: file_in(reason)?,
-        }),
+    match command {
+        "pass" => tip_of_pass(reason),
+        "reload" => tip_of_reload(reason),
+        "run" => tip_of_run(reason),
+        "start" => tip_at(reason, "unrecognized subcommand 'start'", &RUN, STARTS),
+        "status" => tip_at(reason, "unrecognized subcommand 'status'", &REPORT, REPORTS),
+        "" => tip_of_option(reason),
         _ => None,
     }
 }
 
+/// The tip for a file that `relayd pass` is given, which reads standard input.
+fn tip_of_pass(reason: &str) -> Option<Tip<'_>> {
+    let file = file_in(reason)?;
+    Some(Tip {
+        command: &PASS,
+        text: READS,
+        file,
+    })
+}
+
 /// The tip for an option that `relayd reload` does not take.
 fn tip_of_reload(reason: &str) -> Option<Tip<'static>> {
-    if !reason.starts_with("unexpected argument '--") {
+    tip_at(reason, "unexpected argument '--", &RELOAD, READS_AGAIN)
+}
+
+/// The tip for an option that `relayd run` does not take, or for a file without its option.
+fn tip_of_run(reason: &str) -> Option<Tip<'static>> {
+    if is_daemon(reason) {
+        return Some(Tip::of(&RUN, STAYS));
+    }
+    if file_in(reason).is_none() {
         return None;
     }
-    Some(Tip {
-        command: &RELOAD,
-        text: READS_AGAIN,
-        file: "",
-    })
+    Some(Tip::of(&RUN, TAKES_OPTIONS))
+}
+
+/// The tip for an option before the command.
+fn tip_of_option(reason: &str) -> Option<Tip<'static>> {
+    if is_daemon(reason) {
+        return Some(Tip::of(&RUN, STAYS));
+    }
+    tip_at(reason, "unexpected argument '-", &CHECK, NAMES_COMMAND)
+}
+
+/// Whether a relay that goes into the background was asked for.
+fn is_daemon(reason: &str) -> bool {
+    reason == "unexpected argument '--daemon' found" || reason == "unexpected argument '-d' found"
+}
+
+/// The tip of a command, for a reason that begins so.
+fn tip_at(
+    reason: &str,
+    start: &str,
+    command: &'static CommandWords,
+    text: &'static str,
+) -> Option<Tip<'static>> {
+    if !reason.starts_with(start) {
+        return None;
+    }
+    Some(Tip::of(command, text))
 }
 
 /// The first line of the text of an error, without `error: `.

@@ -16,8 +16,8 @@ pub(crate) struct CommandWords {
     pub(crate) files: &'static [Word],
     /// The other words that it takes, in that order, which its help has after those.
     pub(crate) words: &'static [Word],
-    /// The words of which one has to be given, if any.
-    pub(crate) choice: Option<Choice>,
+    /// The words of which one has to be given.
+    pub(crate) choices: &'static [Choice],
 }
 
 /// An option, or a word with no name before it.
@@ -43,6 +43,8 @@ pub(crate) enum Form {
     ValueOr(&'static str, &'static str),
     /// `--name N`, where the option of this name is given too.
     ValueWith(&'static str, &'static str),
+    /// `--name N`, where the option of this name is not given.
+    ValueWithout(&'static str, &'static str),
     /// `--name N`, which the help does not show.
     HiddenValue(&'static str),
     /// `N`.
@@ -59,14 +61,15 @@ pub(crate) struct Choice {
 impl CommandWords {
     /// The command of `clap`.
     pub(crate) fn command<'a>(&self, alloc: Global) -> Result<Command<'a>, AllocError> {
-        let Some(choice) = self.choice else {
-            return self.command_without_choice(alloc);
-        };
-        let group = choice.group(alloc)?;
-        self.command_without_choice(alloc)?.group(group)
+        let mut command = self.command_without_choices(alloc)?;
+        for choice in self.choices {
+            let group = choice.group(alloc)?;
+            command = command.group(group)?;
+        }
+        Ok(command)
     }
 
-    fn command_without_choice<'a>(&self, alloc: Global) -> Result<Command<'a>, AllocError> {
+    fn command_without_choices<'a>(&self, alloc: Global) -> Result<Command<'a>, AllocError> {
         let args = self.args(alloc)?;
         Command::new(alloc, self.name)
             .about(self.about)
@@ -134,6 +137,9 @@ impl Word {
             }
             Form::ValueWith(value, other) => {
                 arg.long(long).value_name(value).requires_arg(other)
+            }
+            Form::ValueWithout(value, other) => {
+                arg.long(long).value_name(value).conflicts_with(other)
             }
             Form::HiddenValue(value) => Ok(arg.long(long).value_name(value).hide(true)),
             Form::Bare(value) => Ok(arg.value_name(value)),

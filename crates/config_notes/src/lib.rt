@@ -1,4 +1,4 @@
-//! Notes for people of what a configuration without a fault may not intend: keys without effect, rules that no name
+//! Notes for people of what a configuration without a fault may not mean: keys without effect, rules that no name
 //! reaches, copies on one host, more memory than there is.
 //!
 //! - [`notes_of_files`] returns the notes of the files of a configuration.

@@ -19,6 +19,10 @@ pub(crate) fn odd_pattern(text: &str) -> Option<&'static str> {
         )
     } else if has_lone_space(text) {
         Some("the pattern has a space, and no metric name has one, so it finds nothing")
+    } else if has_end_inside(text) {
+        Some(
+            "`^` is the beginning of a name and `$` its end, so the pattern finds nothing; write \\^ or \\$ for the sign itself",
+        )
     } else if has_comment(text) {
         Some(
             "the comment is part of the pattern, which then finds nothing; write it on a line of its own",
@@ -35,6 +39,10 @@ pub(crate) fn odd_replacement(text: &str) -> Option<&'static str> {
     } else if has_dollar_group(text) {
         Some(
             "`$` and what follows it become part of the metric name; write \\1 to \\9 for groups of the pattern",
+        )
+    } else if text.starts_with(['>', '=']) {
+        Some(
+            "the first sign of the replacement becomes part of the metric name; write one `=` alone between pattern and replacement",
         )
     } else {
         None
@@ -63,6 +71,26 @@ fn has_lone_space(text: &str) -> bool {
     text.contains(' ') && !text.contains(['|', '[', '?', '*', '{', '#'])
 }
 
+/// Whether a pattern has a `^` behind other text, or a `$` before it, which no name can have there: it has no alternatives, no
+/// groups or classes, no escapes but points, and nothing that repeats or leaves out.
+fn has_end_inside(text: &str) -> bool {
+    if text.contains(['|', '[', '(', '?', '*', '{']) || has_other_escape(text) {
+        return false;
+    }
+    let inner = text.trim_start_matches('^').trim_end_matches('$');
+    inner.contains(['^', '$'])
+}
+
+/// Whether a pattern has an escape that is not a point.
+fn has_other_escape(text: &str) -> bool {
+    for rest in text.split('\\').skip(1) {
+        if !rest.starts_with('.') {
+            return true;
+        }
+    }
+    false
+}
+
 /// Patterns that are found as the whole of each name.
 const WHOLE_NAMES: [&str; 6] = [".*", "^.*", ".*$", "^.*$", "^.+$", ".+"];
 
@@ -70,6 +98,10 @@ const WHOLE_NAMES: [&str; 6] = [".*", "^.*", ".*$", "^.*$", "^.+$", ".+"];
 pub(crate) fn odd_rule(pattern: &str, replacement: &str) -> Option<&'static str> {
     if replacement.is_empty() && WHOLE_NAMES.contains(&pattern) {
         Some("the rule drops every name")
+    } else if pattern.is_empty() && !replacement.is_empty() {
+        Some(
+            "the rule has no pattern, so it puts its replacement between all letters of every name",
+        )
     } else {
         None
     }

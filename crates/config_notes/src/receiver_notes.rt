@@ -1,4 +1,4 @@
-//! Notes of the receivers: where they listen, and whether the relay sends to itself.
+//! Notes of addresses: where the receivers listen, whether the relay sends to itself, and a host that is no address.
 
 use conf_text::{Dest, Section, Setting, Settings};
 use note_text::{EscapedText, Notes};
@@ -46,7 +46,7 @@ impl<'a> Receiver<'a> {
 }
 
 /// Notes of an interface that is no address, of a port that is bound twice or never, of no receiver at all, and of a
-/// destination that is the relay itself.
+/// destination that is the relay itself, or whose host is nearly an address.
 pub(crate) fn add_receiver_notes(notes: &mut Notes, relay: &Section, settings: &Settings) {
     let lines = Receiver::of_lines(settings);
     let pickles = Receiver::of_pickles(settings);
@@ -64,6 +64,7 @@ pub(crate) fn add_receiver_notes(notes: &mut Notes, relay: &Section, settings: &
     for dest in settings.destinations() {
         add_own_port(notes, lines, dest);
         add_own_port(notes, pickles, dest);
+        add_host_note(notes, dest);
     }
 }
 
@@ -88,13 +89,47 @@ fn add_same_port(notes: &mut Notes, lines: Receiver<'_>, pickles: Receiver<'_>) 
 
 /// A note of an interface that is not an IP address.
 fn add_interface_note(notes: &mut Notes, receiver: Receiver<'_>) {
-    if receiver.port > 0 && IpAddr::parse_ascii(receiver.interface.as_bytes()).is_err() {
+    if receiver.port > 0 && !is_address(receiver.interface) {
         notes.add(format_args!(
-            "{}: `{}` is not an IP address, so run cannot listen there; write 0.0.0.0 for all interfaces or 127.0.0.1 for this machine alone, and nothing after it",
+            "{}: `{}` is not an IP address, so run cannot listen there; write {}",
             receiver.interface_key.name(),
-            EscapedText(receiver.interface)
+            EscapedText(receiver.interface),
+            right_interface(receiver.interface)
         ));
     }
+}
+
+fn is_address(text: &str) -> bool {
+    IpAddr::parse_ascii(text.as_bytes()).is_ok()
+}
+
+/// What to write for an interface that is no IP address.
+fn right_interface(interface: &str) -> &'static str {
+    if interface.starts_with('[') {
+        "it without brackets"
+    } else {
+        "0.0.0.0 for all interfaces or 127.0.0.1 for this machine alone, and nothing after it"
+    }
+}
+
+/// A note of a destination whose host is digits and points alone, and is no IP address.
+fn add_host_note(notes: &mut Notes, dest: &Dest) {
+    let host = dest.host.as_str();
+    if is_numbers(host.as_bytes()) && !is_address(host) {
+        notes.add(format_args!(
+            "{dest}: `{host}` is not an IP address, so it is looked up as the name of a host"
+        ));
+    }
+}
+
+/// Whether bytes are digits and points alone.
+fn is_numbers(bytes: &[u8]) -> bool {
+    for byte in bytes {
+        if *byte != b'.' && !byte.is_ascii_digit() {
+            return false;
+        }
+    }
+    true
 }
 
 /// A note of a destination at which this receiver of the relay itself listens.

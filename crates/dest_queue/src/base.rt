@@ -10,6 +10,7 @@ ghost use Rattle.dest_queue.specs.Stored.{queue_of};
 
 use crate::counts::Counts;
 use crate::current::CurrentQueue;
+use crate::front::lie_in_front;
 use crate::offer::Kept;
 use crate::past::{GROUP, IDLE_GROUP, MOST_STEPS};
 use crate::step::Step;
@@ -179,6 +180,7 @@ impl Base {
         ensures history_room { vec_capacity history.new ≡ vec_capacity history.old }
     {
         release_front(&mut self.points, self.dead);
+        lie_in_front(&mut self.points, MOST_STEPS);
         self.dropped.clear();
         share_points(history, &mut self.points, &mut self.dropped);
         self.dead = (current.tally.taken - self.tally.taken) as usize;

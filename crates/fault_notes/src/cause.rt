@@ -73,9 +73,34 @@ impl Cause {
         cure: Some(Cure::OTHER_FILE),
     };
 
+    pub(crate) const MORE_THAN_A_NAME: Cause = Cause {
+        text: "a line of a file of names has one name and nothing after it",
+        cure: Some(Cure::FIRST_FIELDS),
+    };
+
     pub(crate) const LINES_AS_SCRIPT: Cause = Cause {
         text: "the line is a datapoint, and the file looks like one of lines, which --lines takes",
         cure: Some(Cure::OTHER_FILE),
+    };
+
+    pub(crate) const COMMENT_SIGN: Cause = Cause {
+        text: "a comment is a line that begins with `#`, and this one does not",
+        cure: Some(Cure::BEGIN_COMMENT),
+    };
+
+    pub(crate) const GZIP: Cause = Cause {
+        text: "the file is compressed by gzip",
+        cure: Some(Cure::GUNZIP),
+    };
+
+    pub(crate) const BINARY: Cause = Cause {
+        text: "the file has control bytes, and is no text",
+        cure: Some(Cure::TEXT_FILE),
+    };
+
+    pub(crate) const NO_SECTION: Cause = Cause {
+        text: "the file is empty, or has comments alone",
+        cure: Some(Cure::SECTIONS_AND_KEYS),
     };
 
     pub(crate) const NO_RELAY_SECTION: Cause = Cause {
@@ -93,6 +118,11 @@ impl Cause {
         cure: Some(Cure::RENAME_RELAY),
     };
 
+    pub(crate) const SECTION_LIKE_RELAY: Cause = Cause {
+        text: "relayd reads settings from [relay] only, and the file has no section of just this name",
+        cure: Some(Cure::RENAME_RELAY),
+    };
+
     pub(crate) const EMPTY_ITEM: Cause = Cause {
         text: "an item of the list is empty; perhaps the list ends with a comma",
         cure: None,
@@ -106,6 +136,21 @@ impl Cause {
     pub(crate) const VALUE_OF_OTHER_KEY: Cause = Cause {
         text: "carbon replaces `%(KEY)s` by the value of that key, and relayd does not",
         cure: Some(Cure::WRITE_OTHER_VALUE),
+    };
+
+    pub(crate) const VARIABLE: Cause = Cause {
+        text: "relayd replaces no variables and fills no templates",
+        cure: Some(Cure::WRITE_OTHER_VALUE),
+    };
+
+    pub(crate) const SECOND_SIGN: Cause = Cause {
+        text: "the first `=` or `:` of a line ends its key, and the value begins with a second one",
+        cure: Some(Cure::ONE_SIGN),
+    };
+
+    pub(crate) const BEYOND_ASCII: Cause = Cause {
+        text: "a character of the value is beyond ASCII, even if it looks like a letter, a digit or `-`",
+        cure: None,
     };
 
     pub(crate) const METHOD_OF_CARBON: Cause = Cause {
@@ -183,6 +228,16 @@ impl Cause {
         cure: Some(Cure::EQUALS_AS_HEX),
     };
 
+    pub(crate) const SECOND_EQUALS: Cause = Cause {
+        text: "relayd splits the line at its first `=`, and the replacement begins with a second one",
+        cure: Some(Cure::ONE_EQUALS),
+    };
+
+    pub(crate) const ARROW: Cause = Cause {
+        text: "`=` alone is between pattern and replacement, so `>` is part of the replacement",
+        cure: Some(Cure::NO_ARROW),
+    };
+
     pub(crate) const CUT_IN_LOOK_AROUND: Cause = Cause {
         text: "relayd splits the line at its first `=`, here inside a look-around, which relayd does not support",
         cure: Some(Cure::LOOK_AROUND_IN_REWRITING),
@@ -223,6 +278,11 @@ impl Cause {
         cure: Some(Cure::KEEP_CARBON_AGGREGATOR),
     };
 
+    pub(crate) const STORAGE_FILE: Cause = Cause {
+        text: "the file looks like one of carbon-cache, as storage-schemas.conf, which no relay reads",
+        cure: Some(Cure::GIVE_RELAY_RULES),
+    };
+
     pub(crate) const JSON_FILE: Cause = Cause {
         text: "the file looks like JSON, which relayd cannot read",
         cure: Some(Cure::SECTIONS_AND_KEYS),
@@ -260,7 +320,7 @@ impl Cause {
 
     pub(crate) const WHITE_IN_REPLACEMENT: Cause = Cause {
         text: "a replacement contains no white space and no control byte",
-        cure: None,
+        cure: Some(Cure::DELETE_WHITE),
     };
 
     pub(crate) const COMMENT_IN_REPLACEMENT: Cause = Cause {

@@ -29,6 +29,34 @@ impl Cure {
 
     pub(crate) const WITHOUT_QUOTES: Cure = Cure("write it without them");
 
+    pub(crate) const BEGIN_COMMENT: Cure = Cure("begin it with `#`");
+
+    pub(crate) const GUNZIP: Cure = Cure("unpack it: gunzip");
+
+    pub(crate) const TEXT_FILE: Cure = Cure("give the path of a text file");
+
+    pub(crate) const ONE_SIGN: Cure = Cure("write one of the two");
+
+    pub(crate) const ONE_EQUALS: Cure = Cure(
+        "write one of the two, or \\x3d for one in the pattern",
+    );
+
+    pub(crate) const DELETE_WHITE: Cure = Cure("delete it: no metric name has any");
+
+    pub(crate) const NO_ARROW: Cure = Cure("write `=` without `>`");
+
+    pub(crate) const GIVE_RELAY_RULES: Cure = Cure(
+        "give sections with pattern and destinations, as in examples/relay-rules.conf",
+    );
+
+    pub(crate) const FIRST_FIELDS: Cure = Cure(
+        "keep the first field of each line: cut -d ' ' -f 1",
+    );
+
+    pub(crate) const ALTERNATIVES: Cure = Cure(
+        "write (a|b) for {a,b}, and \\{ for the character itself",
+    );
+
     pub(crate) const COMMA_FOR_SEMICOLON: Cure = Cure("write a comma for `;`");
 
     pub(crate) const JOIN_LISTS: Cure = Cure(
@@ -72,6 +100,10 @@ impl Cure {
     );
 
     pub(crate) const ONE_KEY: Cure = Cure("delete the wrong one");
+
+    pub(crate) const HEADER_ABOVE: Cure = Cure(
+        "write a header such as [web] above this rule: each has a section of its own; or delete the wrong one",
+    );
 
     pub(crate) const ONE_LINE: Cure = Cure("write the whole value on one line");
 

@@ -34,7 +34,9 @@ pub(crate) fn cause_of_item(alloc: Global, notes: &mut Notes, text: &str) -> Cau
         Cause::NO_BREAK_SPACE
     } else if names_key(text) {
         Cause::VALUE_OF_OTHER_KEY
-    } else if text.contains("]:") || text.contains("::") {
+    } else if is_variable(text) {
+        Cause::VARIABLE
+    } else if is_of_ipv6(text) {
         Cause::ADDRESS_OF_IPV6
     } else if text.ends_with('\\') {
         Cause::CONTINUED_BY_BACKSLASH
@@ -42,6 +44,8 @@ pub(crate) fn cause_of_item(alloc: Global, notes: &mut Notes, text: &str) -> Cau
         Cause::LIST_IN_BRACKETS
     } else if text.contains(';') {
         Cause::SEMICOLON_BETWEEN_ITEMS
+    } else if text.starts_with(['=', ':']) {
+        Cause::SECOND_SIGN
     } else if text.contains('=') {
         Cause::INSTANCE_AFTER_EQUALS
     } else if text.contains("://") {
@@ -56,6 +60,16 @@ pub(crate) fn cause_of_item(alloc: Global, notes: &mut Notes, text: &str) -> Cau
 /// Whether carbon replaces a part of a value by the value of another key.
 pub(crate) fn names_key(value: &str) -> bool {
     value.contains("%(")
+}
+
+/// Whether a text has a variable of a shell, or a place of a template.
+pub(crate) fn is_variable(text: &str) -> bool {
+    text.starts_with('$') || text.contains("${") || text.contains("{{")
+}
+
+/// Whether a text has an address of IPv6.
+fn is_of_ipv6(text: &str) -> bool {
+    text.contains("::") || (text.starts_with('[') && text.contains("]:"))
 }
 
 /// Which part of a text is wrong that should be a host, a port and perhaps an instance.

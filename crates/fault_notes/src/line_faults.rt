@@ -33,6 +33,8 @@ fn cause_of_line(text: &str, line: FileLine<'_>, fault: IniFault) -> Option<Caus
     let is_bad = matches!(fault, IniFault::BadLine { .. });
     if let Some(cause) = cause_of_signs(text, line) {
         Some(cause)
+    } else if is_foreign_comment(line.text) {
+        Some(Cause::COMMENT_SIGN)
     } else if let Some(cause) = cause_of_other_file(text) {
         Some(cause)
     } else if is_header(line.text) {
@@ -60,10 +62,17 @@ pub(crate) fn cause_of_signs(text: &str, line: FileLine<'_>) -> Option<Cause> {
     }
 }
 
+/// Whether a line begins as a comment does in other languages.
+pub(crate) fn is_foreign_comment(line: &str) -> bool {
+    let line = strip(line);
+    line.starts_with("//") || line.starts_with("/*") || line.starts_with("--")
+}
+
 /// The cure of a key that its section has already.
 fn cure_of_second(line: FileLine<'_>) -> Cure {
     match key_value(line.text) {
         Some(pair) if pair.key.eq_ignore_ascii_case("destinations") => Cure::JOIN_LISTS,
+        Some(pair) if matches!(pair.key, "pattern" | "continue" | "default") => Cure::HEADER_ABOVE,
         _ => Cure::ONE_KEY,
     }
 }

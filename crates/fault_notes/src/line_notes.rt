@@ -57,7 +57,7 @@ impl LineWatch {
         if piece.is_empty() {
             self.is_done = true;
             if !self.rest.is_empty() {
-                notes.add("the last line has no newline");
+                notes.add(self.why_unfinished());
             }
         }
         self.look_at_lines(&mut notes, piece);
@@ -65,6 +65,22 @@ impl LineWatch {
             self.tallies.add_notes(&mut notes);
         }
         notes
+    }
+
+    /// What the input is of which a last line has no newline.
+    fn why_unfinished(&self) -> &'static str {
+        match self.rest.as_slice() {
+            [0x1f, 0x8b, ..] if self.lines == 0 => {
+                "the input has no newline: it is compressed by gzip"
+            }
+            [0, ..] if self.lines == 0 => {
+                "the input has no newline: it looks like frames of pickles, which --pickle takes"
+            }
+            rest if rest.contains(&b'\r') => {
+                "the last line has no newline, but a carriage return, which ends no line"
+            }
+            _ => "the last line has no newline",
+        }
     }
 
     /// Adds how many bad lines had no note.
@@ -80,11 +96,11 @@ impl LineWatch {
             if self.rest.extend_from_slice(part).is_err() {
                 self.is_done = true;
             }
-            if self.rest.len() > LONGEST_LINE.saturating_add(1) {
-                self.is_done = true;
-            }
             if self.is_done {
                 return;
+            }
+            if self.rest.len() > LONGEST_LINE.saturating_add(1) {
+                return self.end_too_long(notes);
             }
             if part.ends_with(b"\n") {
                 self.end_line(notes);
@@ -92,21 +108,53 @@ impl LineWatch {
         }
     }
 
+    /// Adds the note of a line that is too long, and examines no more.
+    fn end_too_long(&mut self, notes: &mut Notes) {
+        self.is_done = true;
+        notes.add(format_args!(
+            "line {}: more than {LONGEST_LINE} bytes, and nothing behind it is read: {}",
+            self.lines.saturating_add(1),
+            EscapedBytes(self.rest.as_slice())
+        ));
+    }
+
     /// Examines the line that has ended, and adds a note if it is bad.
     fn end_line(&mut self, notes: &mut Notes) {
         self.lines = self.lines.saturating_add(1);
         let line = self.rest.as_slice();
         let line = line.strip_suffix(b"\n").unwrap_or(line);
-        if let Some(fault) = Point::read_line(self.alloc, line, self.moment).err() {
-            let why = why_bad(line, fault);
-            self.tallies.add(why, field(line, 0));
-            self.in_second = self.in_second.saturating_add(1);
-            if self.in_second <= MOST_IN_A_SECOND {
-                let number = self.lines;
-                notes.add(format_args!("line {number}: {why}: {}", EscapedBytes(line)));
+        match Point::read_line(self.alloc, line, self.moment) {
+            Ok(point) => {
+                if is_far(&point) {
+                    self.tallies.add(FAR, field(line, 0));
+                }
+                drop(point);
+            }
+            Err(fault) => {
+                let why = why_bad(line, fault);
+                self.tallies.add(why, field(line, 0));
+                self.in_second = self.in_second.saturating_add(1);
+                if self.in_second <= MOST_IN_A_SECOND {
+                    let number = self.lines;
+                    notes.add(format_args!("line {number}: {why}: {}", EscapedBytes(line)));
+                }
             }
         }
         self.rest.clear();
+    }
+}
+
+/// A good line whose time is likely not meant in seconds.
+const FAR: &str = "time: above 100000000000, as of milliseconds, and passed as seconds";
+
+/// The greatest time that is likely meant in seconds: as milliseconds, it is in 1973.
+const FARTHEST: u64 = 100_000_000_000;
+
+/// Whether a line has a datapoint whose time is likely not meant in seconds.
+fn is_far(point: &Option<Point>) -> bool {
+    match point {
+        Some(point) => point.time > FARTHEST,
+        None => false,
     }
 }
 

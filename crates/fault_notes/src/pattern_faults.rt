@@ -75,37 +75,83 @@ fn cure_of_pattern(error: &regex::Error, pattern: PatternText<'_>) -> Option<Cur
     };
     let part = pattern.text.get(error.span.start..).unwrap_or("");
     match error.kind {
-        ErrorKind::ClassRangeInvalid
-        | ErrorKind::RepetitionCountInvalid
-        | ErrorKind::EscapeUnexpectedEof => None,
-        ErrorKind::EscapeUnrecognized if part.starts_with("\\N") => None,
-        _ => Some(cure_of_kind(error, pattern, part)),
-    }
-}
-
-/// The cure of a fault in the syntax of a pattern, of which `part` is the rest from there on.
-fn cure_of_kind(error: &regex_syntax::Error, pattern: PatternText<'_>, part: &str) -> Cure {
-    match error.kind {
-        ErrorKind::EscapeUnrecognized if pattern.text.contains("\\Z") => Cure::END_OF_TEXT,
+        ErrorKind::EscapeUnrecognized => cure_of_escape(pattern.text, part),
+        ErrorKind::ClassEscapeInvalid => Some(Cure::ESCAPE),
         // Relay rules ignore case, and rewrite rules do not.
         ErrorKind::UnsupportedLookAround if pattern.ignores_case => {
             let sign = pattern.text.get(error.span.start..error.span.end);
-            cure_of_look_around(sign.unwrap_or(""))
+            Some(cure_of_look_around(sign.unwrap_or("")))
         }
-        ErrorKind::UnsupportedLookAround => Cure::LOOK_AROUND_IN_REWRITING,
-        ErrorKind::UnsupportedBackreference if is_octal(part) => Cure::BYTE_AS_HEX,
-        ErrorKind::UnsupportedBackreference if pattern.text.contains("\\0") => Cure::ZERO_BYTE,
-        ErrorKind::UnsupportedBackreference => Cure::BACK_REFERENCE,
-        ErrorKind::RepetitionCountDecimalEmpty
+        ErrorKind::UnsupportedLookAround => Some(Cure::LOOK_AROUND_IN_REWRITING),
+        ErrorKind::UnsupportedBackreference => Some(cure_of_reference(pattern.text, part)),
+        ErrorKind::RepetitionMissing if !part.starts_with('{') => Some(Cure::REPEAT_SOMETHING),
+        ErrorKind::RepetitionMissing
+        | ErrorKind::RepetitionCountDecimalEmpty
         | ErrorKind::DecimalInvalid
-        | ErrorKind::RepetitionCountUnclosed => Cure::BRACE,
-        ErrorKind::GroupUnclosed | ErrorKind::ClassUnclosed => Cure::CLOSE_GROUP,
-        ErrorKind::GroupUnopened => Cure::BRACKET_ITSELF,
-        ErrorKind::RepetitionMissing => Cure::REPEAT_SOMETHING,
-        ErrorKind::FlagUnrecognized | ErrorKind::FlagUnexpectedEof => cure_of_flag(pattern.text),
-        ErrorKind::NestLimitExceeded | ErrorKind::CaptureLimitExceeded => Cure::SMALLER_PATTERN,
-        _ => Cure::ESCAPE,
+        | ErrorKind::RepetitionCountUnclosed => Some(cure_of_brace(pattern.text)),
+        ErrorKind::GroupUnclosed | ErrorKind::ClassUnclosed => Some(Cure::CLOSE_GROUP),
+        ErrorKind::GroupUnopened => Some(Cure::BRACKET_ITSELF),
+        ErrorKind::FlagUnrecognized | ErrorKind::FlagUnexpectedEof => {
+            Some(cure_of_flag(pattern.text))
+        }
+        ErrorKind::NestLimitExceeded | ErrorKind::CaptureLimitExceeded => {
+            Some(Cure::SMALLER_PATTERN)
+        }
+        _ => None,
     }
+}
+
+/// The cure of an escape that `regex` does not have, of a pattern of which `part` is the rest from there on.
+fn cure_of_escape(pattern: &str, part: &str) -> Option<Cure> {
+    if part.starts_with("\\N") {
+        None
+    } else if part.starts_with("\\k") {
+        Some(Cure::BACK_REFERENCE)
+    } else if pattern.contains("\\Z") {
+        Some(Cure::END_OF_TEXT)
+    } else {
+        Some(Cure::ESCAPE)
+    }
+}
+
+/// The cure of a backslash with a digit.
+fn cure_of_reference(pattern: &str, part: &str) -> Cure {
+    if is_octal(part) {
+        Cure::BYTE_AS_HEX
+    } else if pattern.contains("\\0") {
+        Cure::ZERO_BYTE
+    } else {
+        Cure::BACK_REFERENCE
+    }
+}
+
+/// The cure of a brace that begins no count.
+fn cure_of_brace(pattern: &str) -> Cure {
+    if has_list(pattern) {
+        Cure::ALTERNATIVES
+    } else {
+        Cure::BRACE
+    }
+}
+
+/// Whether the first braces of a text have words with commas between, as a list of a shell.
+fn has_list(text: &str) -> bool {
+    let Some((_, rest)) = text.split_once('{') else {
+        return false;
+    };
+    match rest.split_once('}') {
+        Some((list, _)) => list.contains(',') && has_letter(list),
+        None => false,
+    }
+}
+
+fn has_letter(text: &str) -> bool {
+    for byte in text.as_bytes() {
+        if byte.is_ascii_alphabetic() {
+            return true;
+        }
+    }
+    false
 }
 
 /// Whether a text begins with a backslash and three octal digits.

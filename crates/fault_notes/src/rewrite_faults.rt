@@ -2,7 +2,7 @@
 
 use crate::cause::{Cause, add_cure};
 use crate::cure::Cure;
-use crate::line_faults::cause_of_signs;
+use crate::line_faults::{cause_of_signs, is_foreign_comment};
 use crate::other_files::cause_of_other_file;
 use crate::pattern_faults::{PatternText, add_bad_pattern};
 use note_text::{
@@ -54,6 +54,8 @@ fn add_no_equals(notes: &mut Notes, path: &str, line: FileLine<'_>) {
 fn cause_of_header(text: &str, line: FileLine<'_>) -> Option<Cause> {
     if let Some(cause) = cause_of_signs(text, line) {
         Some(cause)
+    } else if is_foreign_comment(line.text) {
+        Some(Cause::COMMENT_SIGN)
     } else if strip(line.text) == "[relay]" {
         Some(Cause::CONFIG_FILE_AS_OTHER)
     } else if let Some(cause) = cause_of_other_file(text) {
@@ -129,6 +131,10 @@ fn group_count(alloc: Global, pattern: &str) -> Option<usize> {
 fn cause_of_cut(rule: KeyLine<'_>) -> Option<Cause> {
     if rule.key.ends_with("(?") || rule.key.ends_with("(?<") {
         Some(Cause::CUT_IN_LOOK_AROUND)
+    } else if rule.value.starts_with('>') {
+        Some(Cause::ARROW)
+    } else if rule.value.starts_with('=') {
+        Some(Cause::SECOND_EQUALS)
     } else if rule.value.contains('=') {
         Some(Cause::CUT_AT_FIRST_EQUALS)
     } else {

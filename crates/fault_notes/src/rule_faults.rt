@@ -154,8 +154,18 @@ fn cause_of_rules(ini: &Ini) -> Option<Cause> {
     } else if section_named(ini, RELAY).is_some() {
         Some(Cause::CONFIG_FILE_AS_OTHER)
     } else {
-        None
+        cause_of_keys(ini)
     }
+}
+
+/// What keys the file has of those that carbon-cache reads.
+fn cause_of_keys(ini: &Ini) -> Option<Cause> {
+    for section in ini.sections() {
+        if section.contains_key("retentions") || section.contains_key("aggregationMethod") {
+            return Some(Cause::STORAGE_FILE);
+        }
+    }
+    None
 }
 
 /// A note of the line of the first default rule.

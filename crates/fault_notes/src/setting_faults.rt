@@ -2,7 +2,7 @@
 
 use crate::cause::{Cause, add_cure};
 use crate::cure::Cure;
-use crate::items::names_key;
+use crate::items::{is_variable, names_key};
 use crate::list_faults::{add_bad_item, add_repeated_item, goes_on};
 use conf_text::{Ini, Section, Setting, SettingFault};
 use note_text::{
@@ -116,14 +116,23 @@ fn cause_of_value(fault: SettingFault, value: &str) -> Option<Cause> {
     if names_key(value) {
         return Some(Cause::VALUE_OF_OTHER_KEY);
     }
+    if is_variable(value) {
+        return Some(Cause::VARIABLE);
+    }
     match (fault, value) {
         (
             SettingFault::Method { .. },
             "aggregated-consistent-hashing" | "fast-hashing" | "fast-aggregated-hashing",
         ) => Some(Cause::METHOD_OF_CARBON),
         _ if value.starts_with(QUOTES) => Some(Cause::VALUE_IN_QUOTES),
-        _ => comment_in(value),
+        _ if value.starts_with(['=', ':']) => Some(Cause::SECOND_SIGN),
+        _ => comment_in(value).or(beyond_ascii(value)),
     }
+}
+
+/// A character beyond ASCII in a value, if it has one.
+fn beyond_ascii(value: &str) -> Option<Cause> {
+    (!value.is_ascii()).then_some(Cause::BEYOND_ASCII)
 }
 
 /// A comment on the line of a value, if it has one.
@@ -206,11 +215,12 @@ fn add_no_relay(notes: &mut Notes, file: TextFile<'_>, ini: &Ini) {
             return add_cure(notes, Some(cause), Cure::WRITE_DESTINATIONS);
         }
     }
-    add_cure(
-        notes,
-        Some(Cause::NO_RELAY_SECTION),
-        Cure::WRITE_DESTINATIONS,
-    )
+    let cause = if ini.sections().is_empty() {
+        Cause::NO_SECTION
+    } else {
+        Cause::NO_RELAY_SECTION
+    };
+    add_cure(notes, Some(cause), Cure::WRITE_DESTINATIONS)
 }
 
 fn cause_of_section(section: &Section) -> Option<Cause> {
@@ -225,6 +235,8 @@ fn cause_of_section(section: &Section) -> Option<Cause> {
         Some(Cause::RELAY_NG_FILE)
     } else if matches!(name, "pre" | "post") {
         Some(Cause::REWRITE_FILE_AS_CONFIG)
+    } else if name.contains(RELAY) {
+        Some(Cause::SECTION_LIKE_RELAY)
     } else {
         None
     }
@@ -252,7 +264,7 @@ fn expected_of(setting: Setting) -> &'static str {
         Setting::DestinationProtocol => "line",
         Setting::DiverseReplicas | Setting::EnableUdpListener => TRUTH_WORDS,
         Setting::LineReceiverPort | Setting::PickleReceiverPort | Setting::UdpReceiverPort => {
-            "0 to 65535 in decimal digits"
+            "0 to 65535 in decimal digits, 0 for none"
         }
         Setting::LineReceiverInterface
         | Setting::PickleReceiverInterface

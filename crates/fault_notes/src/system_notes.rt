@@ -2,6 +2,7 @@
 
 use crate::cause::{Cause, add_cure};
 use crate::cure::Cure;
+use crate::not_text::add_not_text;
 use line_text::{Moment, Point};
 use note_text::{EscapedText, Notes, Source, SourceText, line_numbered};
 use relay_base::NoMemory;
@@ -25,21 +26,27 @@ pub(crate) fn add_unreadable(notes: &mut Notes, path: &str, reason: &str) {
 }
 
 /// Notes of the line of a number, from 1, that is refused in a script, and what may be there; of no line, if it
-/// is 0.
+/// is 0. Of a script that is no text they say where.
 pub fn notes_of_script(alloc: Global, source: Source<'_>, line: usize) -> Result<Notes, NoMemory> {
     let mut notes = Notes::new(alloc);
     if let SourceText::Bytes(bytes) = source.text {
-        if let Ok(text) = str::from_utf8(bytes) {
-            let mut cause = None;
-            if line > 0 {
-                let line = line_numbered(text, line);
-                notes.add_line(source.path, line);
-                cause = cause_of_script_line(alloc, line.text);
-            }
-            add_cure(&mut notes, cause, Cure::SCRIPT_LINE);
+        match str::from_utf8(bytes) {
+            Ok(text) => add_script_line(alloc, &mut notes, source.path, text, line),
+            Err(error) => add_not_text(&mut notes, source.path, bytes, error.valid_up_to()),
         }
     }
     notes.finish()
+}
+
+/// Adds the line of a number, from 1, of a script, or none if it is 0, and the cure.
+fn add_script_line(alloc: Global, notes: &mut Notes, path: &str, text: &str, line: usize) {
+    let mut cause = None;
+    if line > 0 {
+        let line = line_numbered(text, line);
+        notes.add_line(path, line);
+        cause = cause_of_script_line(alloc, line.text);
+    }
+    add_cure(notes, cause, Cure::SCRIPT_LINE);
 }
 
 /// What a line of a script is that is a datapoint.

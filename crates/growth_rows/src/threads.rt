@@ -7,7 +7,8 @@ use locked_queues::{Door, ListDoor};
 use mio_loops::{LISTENER, ReadTotals, ReadinessFault, SystemTimes, Token};
 use reader_core::ReaderKind;
 use receivers::{
-    Accept, AcceptOutcome, Datagrams, ReceiverRecord, receive_datagrams, receive_streams,
+    Accept, AcceptOutcome, Datagrams, ReceiverRecord, ServedInput, receive_datagrams,
+    receive_streams,
 };
 use relay_base::DestId;
 use senders::{Connect, send_batches};
@@ -82,7 +83,7 @@ impl Accept for OneConnection {
 
     fn note_totals(&mut self, _totals: ReadTotals, _emptied: u64) {}
 
-    fn note_served(&mut self, _token: Token, _has_datapoints: bool) {}
+    fn note_served(&mut self, _token: Token, _served: ServedInput) {}
 
     fn note_fault(&mut self, _fault: ReadinessFault) {}
 }
@@ -127,6 +128,8 @@ impl Datagrams for OneDatagram {
     fn receive(&mut self, buffer: &mut [u8]) -> io::Result<usize> {
         self.datagram.read(buffer)
     }
+
+    fn note_served(&mut self, _served: ServedInput) {}
 
     fn note_totals(&mut self, _totals: ReadTotals, _emptied: u64) {}
 

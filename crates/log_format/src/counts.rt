@@ -13,7 +13,7 @@ pub struct Count {
 }
 
 /// What a count has behind its number, and its name.
-static BEHIND: [(&str, &str); 18] = [
+static BEHIND: [(&str, &str); 22] = [
     ("lines lost", "lines_lost"),
     ("bad line", "bad_lines"),
     ("bad pickle", "bad_pickles"),
@@ -32,6 +32,10 @@ static BEHIND: [(&str, &str); 18] = [
     ("datapoints spooled", "spooled"),
     ("datapoints not sent", "not_sent"),
     ("datapoints", "datapoints"),
+    ("bytes", "bytes"),
+    ("seconds old", "age_seconds"),
+    ("unknown command", "unknown_commands"),
+    ("without the key", "without_key"),
 ];
 
 /// What a count has before its number, and its name.
@@ -48,16 +52,17 @@ pub fn counts_in(alloc: Global, what: &str) -> Result<Vec<Count>, AllocError> {
     Ok(counts)
 }
 
-/// The count of a part of a line, if it is one.
+/// The count of a part of a line, if it is one: `12 bad lines`, `log: 12 lines lost`, `dropped 12` or `dropped 12 at a reload`.
 fn count_in(part: &str) -> Option<Count> {
+    let (_, part) = part.split_once(": ").unwrap_or(("", part));
     let (first, rest) = part.split_once(' ')?;
     if let Some(number) = whole_number_up_to(first, u64::MAX) {
         let name = name_behind(rest)?;
         return Some(Count { name, number });
     }
-    let (before, last) = part.rsplit_once(' ')?;
-    let number = whole_number_up_to(last, u64::MAX)?;
-    let name = name_before(before)?;
+    let (second, _) = rest.split_once(' ').unwrap_or((rest, ""));
+    let number = whole_number_up_to(second, u64::MAX)?;
+    let name = name_before(first)?;
     Some(Count { name, number })
 }
 
@@ -72,7 +77,7 @@ fn name_behind(rest: &str) -> Option<&'static str> {
 
 fn name_before(before: &str) -> Option<&'static str> {
     for (text, name) in &BEFORE {
-        if before.ends_with(*text) {
+        if before == *text {
             return Some(*name);
         }
     }

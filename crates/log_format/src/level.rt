@@ -23,19 +23,20 @@ impl Level {
 }
 
 /// What lines have whose level is `Error`.
-static OF_ERRORS: [&str; 5] = [
+static OF_ERRORS: [&str; 6] = [
     " failed: ",
     " ended: out of memory",
     " spool: ",
+    " cannot read at byte ",
     " datapoints not sent",
     " record: ",
 ];
 
 /// What lines have whose level is `Warning`.
-static OF_WARNINGS: [&str; 18] = [
+static OF_WARNINGS: [&str; 20] = [
     " lines lost",
     " lost: ",
-    " cannot connect: ",
+    " cannot connect",
     " queue full, dropping",
     " dropped ",
     " still looking up its host",
@@ -51,6 +52,8 @@ static OF_WARNINGS: [&str; 18] = [
     " broken connection",
     " system drop",
     " twice",
+    "; nothing of it is ",
+    "; it stays",
 ];
 
 /// The level of a line: an error where it has what only errors have, else a warning where it has what warnings have.

@@ -10,3 +10,4 @@ pub mod LoggedLookup
 pub mod Line
 pub mod CountsLine
 pub mod EndLines
+pub mod Producers

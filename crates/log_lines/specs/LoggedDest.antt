@@ -6,6 +6,16 @@ use Rattle.log_lines.specs.declared.logged_dest.LoggedDest.{LoggedDest}
 use Rattle.log_lines.specs.declared.logged_dest.DestEvent.{DestEvent}
 use Rattle.log_lines.specs.declared.logged_dest.DestEvent.TheVariants as event
 
+abbrev pub nothing_logged : LoggedDest
+nothing_logged = record {
+  is_up = false;
+  losses = 0;
+  failure = None;
+  is_dropping = false;
+  dropped = 0;
+  before = 0;
+}
+
 -- what the log may report of the connection: what holds now, and was not reported; nothing only if all was
 abbrev pub IsConnectionEvent : LoggedDest → DestStatus → Option DestEvent → Type 0
 IsConnectionEvent logged now None =

@@ -7,6 +7,10 @@ use Rattle.log_lines.specs.declared.losses.LoggedLosses.{LoggedLosses}
 use Rattle.log_lines.specs.declared.losses.LossReason.{LossReason}
 use Rattle.log_lines.specs.declared.losses.LossReason.TheVariants as reason
 
+abbrev pub no_losses : LossCounts
+no_losses =
+    record { overlong = 0; unfinished = 0; idle = 0; memory_short = 0; broken = 0; system_drops = 0 }
+
 -- the count of a reason
 abbrev pub count_of : LossCounts → LossReason → ℕ
 count_of counts reason.Overlong = counts.overlong

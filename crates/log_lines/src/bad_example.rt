@@ -1,6 +1,6 @@
 //! An example of bad input, with the address of its producer.
 
-ghost use Rattle.std.specs.Prelude.{◌≡◌, ◌++◌, ◌&&◌, OnOk};
+ghost use Rattle.std.specs.Prelude.{◌≡◌, ◌++◌, ◌&&◌, None, OnOk};
 ghost use Rattle.std.specs.String.{string_bytes};
 ghost use Rattle.log_lines.specs.BadExample.{example_line, example_logged_after, kind_words, opcode_words, pickle_words, quoted_words, wrong_words};
 ghost use Rattle.log_lines.specs.LoggedCounts.{is_minute_over};
@@ -151,7 +151,9 @@ pub struct LoggedExample {
 
 impl LoggedExample {
     /// It has written none.
-    pub fn new() -> LoggedExample {
+    pub fn new() -> LoggedExample
+        ensures { result.at ≡ None }
+    {
         LoggedExample { at: None }
     }
 

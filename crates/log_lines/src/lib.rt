@@ -1,7 +1,8 @@
 //! The log of a running relay: lines for its destinations and its receivers.
 //!
 //! A sender notes in a [`DestNotes`] that a connection was made or lost, a receiver in a [`ReceiverNotes`] that it
-//! cannot take connections. A note is a few atomic words: no lock, no memory, no system call. The thread that
+//! cannot take connections. A note is a few atomic words: no lock, no memory, no system call; only what producers sent, for the
+//! status, changes hands in a [`ProducerPlace`], for which neither side waits. The thread that
 //! writes the log looks at them once a second; [`LoggedDest::look`] and [`LoggedReceiver::look`] return at most one
 //! event a look, and [`push_dest_line`] and [`push_receiver_line`] write its line.
 #![tactic(auto)]
@@ -17,6 +18,7 @@ mod logged_lookup;
 mod losses;
 mod losses_line;
 mod noted_address;
+mod producers;
 mod receiver_counts;
 mod receiver_notes;
 mod why;
@@ -34,6 +36,7 @@ pub use logged_dest::{DestEvent, LoggedDest};
 pub use logged_lookup::{LoggedLookup, LookupEvent};
 pub use losses::{LOSS_REASONS, LoggedLosses, LossCounts, LossNotes, LossReason, has_lost};
 pub use losses_line::{InputUnit, push_losses_line};
+pub use producers::{Producer, ProducerCounts, ProducerPlace, ProducerWindow};
 pub use receiver_counts::ReceiverCounts;
 pub use receiver_notes::{LoggedReceiver, ReceiverNotes, ReceiverState};
 pub use why::Why;

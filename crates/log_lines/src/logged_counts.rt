@@ -1,7 +1,8 @@
 //! When the log reports what a receiver has counted.
 
-ghost use Rattle.std.specs.Prelude.{◌≡◌};
+ghost use Rattle.std.specs.Prelude.{◌≡◌, false, None};
 ghost use Rattle.log_lines.specs.LoggedCounts.{counts_logged_after, has_bad, has_same_bad, is_line_due, is_minute_over, refusal_event, refusals_logged_after};
+ghost use Rattle.log_lines.specs.ReceiverCounts.{no_counts};
 
 use crate::receiver_counts::ReceiverCounts;
 
@@ -21,7 +22,9 @@ pub struct LoggedCounts {
 
 impl LoggedCounts {
     /// The log has reported nothing.
-    pub fn new() -> LoggedCounts {
+    pub fn new() -> LoggedCounts
+        ensures { result ≡ record { counts = no_counts; at = None } }
+    {
         LoggedCounts {
             counts: ReceiverCounts::zero(),
             at: None,
@@ -97,7 +100,9 @@ pub struct LoggedRefusals {
 
 impl LoggedRefusals {
     /// The log has reported nothing: no connection was refused.
-    pub fn new() -> LoggedRefusals {
+    pub fn new() -> LoggedRefusals
+        ensures { result ≡ record { is_refusing = false; refused = 0; before = 0 } }
+    {
         LoggedRefusals {
             is_refusing: false,
             refused: 0,

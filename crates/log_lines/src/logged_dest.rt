@@ -1,7 +1,7 @@
 //! What the log reports of a destination.
 
 ghost use Rattle.std.specs.Prelude.{◌≡◌};
-ghost use Rattle.log_lines.specs.LoggedDest.{IsConnectionEvent, IsDropEvent, IsDestEvent, dest_logged_after, logged_up_to, with_connection, with_drops};
+ghost use Rattle.log_lines.specs.LoggedDest.{IsConnectionEvent, IsDropEvent, IsDestEvent, dest_logged_after, logged_up_to, nothing_logged, with_connection, with_drops};
 
 use crate::dest_notes::DestStatus;
 use crate::why::Why;
@@ -39,7 +39,9 @@ pub struct LoggedDest {
 
 impl LoggedDest {
     /// Nothing was reported.
-    pub fn new() -> LoggedDest {
+    pub fn new() -> LoggedDest
+        ensures { result ≡ nothing_logged }
+    {
         LoggedDest {
             is_up: false,
             losses: 0,

@@ -1,6 +1,6 @@
 //! When the log reports that a host name is being looked up.
 
-ghost use Rattle.std.specs.Prelude.{◌≡◌};
+ghost use Rattle.std.specs.Prelude.{◌≡◌, false};
 ghost use Rattle.log_lines.specs.LoggedLookup.{lookup_event};
 
 /// An event of a look-up that takes long.
@@ -20,7 +20,9 @@ pub struct LoggedLookup {
 
 impl LoggedLookup {
     /// The log has reported nothing.
-    pub fn new() -> LoggedLookup {
+    pub fn new() -> LoggedLookup
+        ensures { result.is_long ≡ false }
+    {
         LoggedLookup { is_long: false }
     }
 

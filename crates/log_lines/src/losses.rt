@@ -1,7 +1,7 @@
 //! What a receiver lost or closed, by its reason.
 
-ghost use Rattle.std.specs.Prelude.{◌≡◌};
-ghost use Rattle.log_lines.specs.Losses.{count_of, losses_behind, has_lost, has_same_losses, is_losses_line_due, losses_logged_after};
+ghost use Rattle.std.specs.Prelude.{◌≡◌, None};
+ghost use Rattle.log_lines.specs.Losses.{count_of, losses_behind, has_lost, has_same_losses, is_losses_line_due, losses_logged_after, no_losses};
 
 use crate::logged_counts::is_minute_over;
 use std::sync::atomic::{AtomicU64, Ordering};
@@ -33,20 +33,6 @@ pub const LOSS_REASONS: [LossReason; 6] = [
     LossReason::SystemDrop,
 ];
 
-impl LossReason {
-    /// The name of the reason in JSON and metrics.
-    pub fn label(self) -> &'static str {
-        match self {
-            LossReason::Overlong => "overlong",
-            LossReason::Unfinished => "unfinished",
-            LossReason::Idle => "idle",
-            LossReason::MemoryShort => "memory_short",
-            LossReason::Broken => "broken",
-            LossReason::SystemDrop => "system_drop",
-        }
-    }
-}
-
 /// How often a receiver lost or closed something since the start, by the reason.
 #[derive(Clone, Copy)]
 pub struct LossCounts {
@@ -66,7 +52,9 @@ pub struct LossCounts {
 
 impl LossCounts {
     /// All counts are 0.
-    pub fn zero() -> LossCounts {
+    pub fn zero() -> LossCounts
+        ensures { result ≡ no_losses }
+    {
         LossCounts {
             overlong: 0,
             unfinished: 0,
@@ -183,7 +171,9 @@ pub struct LoggedLosses {
 
 impl LoggedLosses {
     /// The log has reported nothing.
-    pub fn new() -> LoggedLosses {
+    pub fn new() -> LoggedLosses
+        ensures { result ≡ record { counts = no_losses; at = None } }
+    {
         LoggedLosses {
             counts: LossCounts::zero(),
             at: None,

@@ -5,6 +5,7 @@ ghost use Rattle.log_lines.specs.LoggedReceiver.{IsReceiverEvent};
 
 use crate::bad_example::{BadExample, ExamplePlace};
 use crate::losses::{LossCounts, LossNotes};
+use crate::producers::ProducerPlace;
 use crate::receiver_counts::{NotedCounts, ReceiverCounts};
 use crate::why::Why;
 use std::sync::atomic::{AtomicBool, AtomicU32, AtomicU64, Ordering};
@@ -19,6 +20,7 @@ pub struct ReceiverNotes {
     counts: NotedCounts,
     losses: LossNotes,
     example: ExamplePlace,
+    producers: ProducerPlace,
     // How many connections it has taken.
     taken: AtomicU64,
     // What the receivers of runs that have ended had counted, lost and taken.
@@ -49,6 +51,7 @@ impl ReceiverNotes {
             counts: NotedCounts::new(),
             losses: LossNotes::new(),
             example: ExamplePlace::new(),
+            producers: ProducerPlace::new(),
             taken: AtomicU64::new(0),
             earlier_counts: NotedCounts::new(),
             earlier_losses: LossNotes::new(),
@@ -134,6 +137,11 @@ impl ReceiverNotes {
         self.example.clear();
     }
 
+    /// Where it puts what its producers have sent.
+    pub fn producers(&self) -> &ProducerPlace {
+        &self.producers
+    }
+
     /// Its state now.
     pub fn state(&self) -> ReceiverState {
         if self.has_failed.load(Ordering::SeqCst) {
@@ -158,7 +166,9 @@ pub struct LoggedReceiver {
 
 impl LoggedReceiver {
     /// Nothing was reported: it receives.
-    pub fn new() -> LoggedReceiver {
+    pub fn new() -> LoggedReceiver
+        ensures { result.state ≡ ReceiverState.Open }
+    {
         LoggedReceiver {
             state: ReceiverState::Open,
         }

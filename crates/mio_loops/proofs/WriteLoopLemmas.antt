@@ -6,6 +6,8 @@ use Rattle.std.proofs.lemmas.Bool.{cases_Bool}
 use Rattle.line_text.specs.Datapoint.{Datapoint}
 use Rattle.queue_records.specs.Takes.{TakesMade}
 use Rattle.mio_loops.specs.WriterLog.{WriterLog}
+use Rattle.mio_loops.specs.LeftWriter.{IsLeftOf, IsGivenEach}
+use Rattle.mio_loops.specs.declared.left_writer.LeftWriter.{LeftWriter}
 use Rattle.mio_loops.specs.OutgoingState.{OutgoingState}
 use Rattle.mio_loops.specs.WriteTurn.{TurnAt}
 use Rattle.mio_loops.specs.WriteLoop.{detached, is_up_at, IsLoopTurn}
@@ -122,3 +124,15 @@ module _ {W : Type 0} where
       sym (append-nil logs)
       ∙ ap (λ (xs : List (OutgoingState W)). logs ++ map log xs) (sym (nil_from_length ds none))
       ∙ so_far
+
+module _ {W T : Type 0} (takes : T → ℕ → LeftWriter W → T → Type 0) where
+  pub given-none : (dest : ℕ) (os : List (OutgoingState W)) (taker : T) → length os ≡ 0 → IsGivenEach takes dest os taker taker
+  given-none dest os taker none =
+      subst (λ (l : List (OutgoingState W)). IsGivenEach takes dest l taker taker) (sym (nil_from_length os none)) refl
+
+  pub given-first : (dest next : ℕ) (o : OutgoingState W) (os rest : List (OutgoingState W)) (left : LeftWriter W) (before between after : T)
+      → os ≡ o ∷ rest → next ≡ dest + 1 → IsLeftOf o left → takes before dest left between → IsGivenEach takes next rest between after
+      → IsGivenEach takes dest os before after
+  given-first dest next o os rest left before between after step is leaves took others =
+      subst (λ (l : List (OutgoingState W)). IsGivenEach takes dest l before after) (sym step)
+      (left, between, leaves, took, subst (λ (n : ℕ). IsGivenEach takes n rest between after) is others)

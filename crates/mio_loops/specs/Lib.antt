@@ -12,6 +12,7 @@ pub mod WriteLog
 pub mod WriterSteps
 pub mod WriteServe
 pub mod OutgoingState
+pub mod LeftWriter
 pub mod WriteAnswers
 pub mod WriteTurn
 pub mod WriteLoop

@@ -33,6 +33,13 @@ pub struct LeftBatch {
 
 /// Who takes what a loop leaves.
 pub trait LeftTaker<W> {
+    ghost use Rattle.std.specs.Prelude.{ℕ};
+    ghost use Rattle.mio_loops.specs.declared.left_writer.LeftWriter.{LeftWriter};
+
+    // How what is left of a destination changes who takes it. Where an impl does not say, any change will do.
+    ghost takes: { Self → ℕ → LeftWriter W → Self → Type 0 } = { λ _ _ _ _. Unit {0} };
+
     /// Takes what is left of a destination.
-    fn take_left(&mut self, dest: DestId, left: LeftWriter<W>);
+    fn take_left(&mut self, dest: DestId, left: LeftWriter<W>)
+        ensures { takes self.old dest.0 left self.new };
 }

@@ -12,6 +12,7 @@ mod all_destinations;
 pub mod exchange;
 pub mod faulty;
 mod input_log;
+mod leaving_loop;
 mod left_writer;
 mod log_entry;
 mod offers;
@@ -36,6 +37,7 @@ mod write_serve;
 
 pub use admit_fault::AdmitFault;
 pub use input_log::{InputLog, MOST_LOG_BYTES, MOST_LOG_ENTRIES};
+pub use leaving_loop::LeavingLoop;
 pub use left_writer::{LeftBatch, LeftTaker, LeftWriter};
 pub use log_entry::{LogEntries, LogEntry, LogInput};
 pub use offers::make_offers;

@@ -54,6 +54,7 @@ impl<W> Model for Outgoing<W> {
 }
 
 impl<W: Write + Drop> Outgoing<W> {
+    ghost use Rattle.mio_loops.specs.LeftWriter.{IsLeftOf};
     ghost use Rattle.mio_loops.specs.WriteLoop.{fresh_outgoing, with_connection, detached};
     ghost use Rattle.mio_loops.specs.WriteTurn.{is_in_again_list, goes_on, IsTurn};
 
@@ -124,9 +125,7 @@ impl<W: Write + Drop> Outgoing<W> {
     /// The log of the writer, and what is left of the destination.
     pub(crate) fn into_parts(self) -> (WriteLog, LeftWriter<W>)
         ensures log { result.0 ≡ self.log }
-        ensures writer { result.1.batch.writer.writer ≡ self.writer }
-        ensures sink { MatchOption result.1.sink (self.sink ≡ None)
-            (λ sink. (held : Counting W) × (self.sink ≡ Some held) × (stream_of held ≡ sink)) }
+        ensures left { IsLeftOf self result.1 }
     {
         let Outgoing {
             limit,

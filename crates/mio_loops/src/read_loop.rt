@@ -243,8 +243,8 @@ impl<S: Read + Drop> ReadLoop<S> {
         report
     }
 
-    /// The bytes of the connection of a token behind its last whole line or frame: what its next reader is to be fed first.
-    pub fn rest(&self, token: Token) -> &[u8]
+    /// The bytes of the connection of a token behind its last whole line or frame.
+    pub(crate) fn rest(&self, token: Token) -> &[u8]
         requires within { token.0 < MOST_CONNECTIONS }
         ensures { (reader : ReaderModel) → slice_get self.now.readers token.0 ≡ Some reader
             → result.now ≡ rest_of reader.scan }
@@ -252,17 +252,16 @@ impl<S: Read + Drop> ReadLoop<S> {
         self.readers[token.0].rest()
     }
 
-    /// Takes out the connection of a token, if it is held. Its reader, which stays as it is, has not ended: the connection goes
-    /// on elsewhere, behind [`ReadLoop::rest`]. So the loop serves and admits none from then on: another connection under
-    /// this token would be read behind that rest. Offers that wait, since the door was out of memory, are not made.
-    /// The log does not change.
-    pub fn take_out(&mut self, token: Token) -> Option<S>
+    /// Takes out the connection of a token, if it is held. Its reader stays as it is, and has not ended: so only a loop that
+    /// admits none from then on (`LeavingLoop`) does it.
+    pub(crate) fn take_out(&mut self, token: Token) -> Option<S>
         ensures stream { MatchOption result (get self.old.sources token.0 ≡ None)
             (λ stream. (held : Counting S) × (get self.old.sources token.0 ≡ Some held)
             × (stream_of held ≡ stream)) }
         ensures left { get self.new.sources token.0 ≡ None }
         ensures others { (other : ℕ) → other ≢ token.0
             → get self.new.sources other ≡ get self.old.sources other }
+        ensures listed { (any : ℕ) → is_listed self.new any ≡ is_listed self.old any }
         ensures rest { (self.new.first ≡ self.old.first) × (self.new.readers ≡ self.old.readers)
             × (self.new.log ≡ self.old.log) }
     {

@@ -57,6 +57,7 @@ impl<W: Write + Drop> WriteLoop<W> {
     ghost use Rattle.mio_loops.specs.OutgoingState.{OutgoingState};
     ghost use Rattle.mio_loops.specs.WriteLoop.{fresh_outgoing, with_connection, detached, is_up_at, is_among, IsReportOf, IsLoopTurn};
     ghost use Rattle.mio_loops.specs.WriteTurn.{goes_on};
+    ghost use Rattle.mio_loops.specs.LeftWriter.{IsGivenEach};
 
     /// A loop over this number of destinations, none of which has a connection, for batches of at most `limit`
     /// datapoints. There are 1 to [`MOST_DESTS`] destinations, and the limit is 1 to
@@ -156,7 +157,8 @@ impl<W: Write + Drop> WriteLoop<W> {
     /// The logs, one for each destination, in their order. What is left of each destination, with its connection, goes to this
     /// taker, in the same order. It takes no memory.
     pub fn release<T: LeftTaker<W>>(self, taker: &mut T) -> Vec<WriteLog>
-        ensures { result.items ≡ map (λ o. o.log) self }
+        ensures logs { result.items ≡ map (λ o. o.log) self }
+        ensures left { IsGivenEach T.takes 0 self taker.old taker.new }
     {
         let WriteLoop {
             destinations,

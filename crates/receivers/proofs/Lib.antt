@@ -2,3 +2,4 @@ pub mod AcceptedLemmas
 pub mod MomentLemmas
 pub mod RanLemmas
 pub mod DatagramLemmas
+pub mod HandingLemmas

@@ -1,6 +1,7 @@
 //! Where connections come from.
 ghost use Rattle.std.specs.Prelude.{◌≡◌, IfErr};
 
+use crate::input_counts::ServedInput;
 use mio_loops::{ReadTotals, ReadinessFault, Token};
 use reader_core::ReaderCounts;
 use std::io::Read;
@@ -57,8 +58,8 @@ pub trait Accept {
     /// second, or once a turn where turns are longer, and when the receiver ends.
     fn note_totals(&mut self, totals: ReadTotals, emptied: u64);
 
-    /// Takes note that the connection of a token was served, and whether its reader accepted datapoints.
-    fn note_served(&mut self, token: Token, has_datapoints: bool);
+    /// Takes note that the connection of a token was served, and what its reader counted of that.
+    fn note_served(&mut self, token: Token, served: ServedInput);
 
     /// Takes note that the connection of a token sent bad input: what its reader had counted before and has counted now.
     /// The buffer begins with the last piece that the connection sent.

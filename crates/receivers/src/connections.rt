@@ -6,7 +6,7 @@ use crate::progress::Progress;
 use log_lines::{LossNotes, LossReason};
 use relay_base::NoMemory;
 use std::alloc::Global;
-use std::sync::atomic::{AtomicBool, Ordering};
+use std::sync::atomic::{AtomicBool, AtomicU64, Ordering};
 use std::sync::{Arc, Mutex};
 
 /// A piece that a connection sent.
@@ -28,6 +28,8 @@ pub(crate) struct Connections {
     // Whether an example of bad input is wanted; then the last piece that a connection sent.
     wants_example: AtomicBool,
     last: Mutex<LastPiece>,
+    // How many bytes the connection that is served has sent in this turn.
+    bytes: AtomicU64,
     // Whether the listener failed, so that its receiver ends.
     has_failed: AtomicBool,
 }
@@ -54,6 +56,7 @@ impl Connections {
                 length: 0,
                 before: Progress::Overlong,
             }),
+            bytes: AtomicU64::new(0),
             has_failed: AtomicBool::new(false),
         };
         Ok(Arc::new(alloc, connections)?)
@@ -75,8 +78,19 @@ impl Connections {
         self.wants_example.store(is_wanted, Ordering::SeqCst);
     }
 
-    /// A connection sent a piece of this length, and was there before. Nothing is noted if no example is wanted.
+    /// How many bytes the connection that was served last has sent in this turn. Asked again, it is 0.
+    pub(crate) fn take_bytes(&self) -> u64 {
+        let bytes = self.bytes.load(Ordering::SeqCst);
+        self.bytes.store(0, Ordering::SeqCst);
+        bytes
+    }
+
+    /// A connection sent a piece of this length, and was there before, which is noted if an example is wanted.
     pub(crate) fn note_piece(&self, length: usize, before: Progress) {
+        // The receiver's thread alone counts them.
+        let bytes = self.bytes.load(Ordering::SeqCst);
+        self.bytes
+            .store(bytes.saturating_add(length as u64), Ordering::SeqCst);
         if !self.wants_example.load(Ordering::SeqCst) {
             return;
         }

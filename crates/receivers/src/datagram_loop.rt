@@ -99,7 +99,7 @@ impl DatagramLoop {
                 let log = &mut self.log;
                 let before = counts_of(reader, plan);
                 let fed = feed_piece(reader, number, plan, door, log, datagram, moment);
-                note_bad(socket, before, counts_of(reader, plan), datagram);
+                note_served(socket, before, counts_of(reader, plan), datagram);
                 received_of(fed)
             }
             Err(error) => received_after(error.kind()),
@@ -132,8 +132,14 @@ fn counts_of(reader: &Reader, plan: &Plan) -> InputCounts {
     }
 }
 
-/// Tells the socket if a datagram had bad input: its reader had counted this before and counts that now.
-fn note_bad<A: Datagrams>(socket: &mut A, before: InputCounts, now: InputCounts, datagram: &[u8]) {
+/// Tells the socket what a datagram held, and whether that was bad: its reader had counted this before and counts that now.
+fn note_served<A: Datagrams>(
+    socket: &mut A,
+    before: InputCounts,
+    now: InputCounts,
+    datagram: &[u8],
+) {
+    socket.note_served(now.since(&before));
     let faults = now.faults_since(&before);
     if has_more(before.totals.faults, faults) {
         socket.note_bad(before.totals.faults, faults, datagram);

@@ -5,8 +5,11 @@ use crate::bad_input::{LastInput, Lines, wrong_with};
 use crate::control::{ReceiverControl, shared_control};
 use crate::datagram_loop::MOST_DATAGRAM;
 use crate::datagrams::Datagrams;
+use crate::input_counts::ServedInput;
 use crate::long_words::{LastWord, is_short};
 use crate::optional_notes::OptionalNotes;
+use crate::producer_table::ProducerTable;
+use crate::producer_tallies::REPORTS_A_WINDOW;
 use crate::refusal::passing;
 use crate::system_drops::SystemDrops;
 use log_lines::{BadExample, LossNotes, LossReason, ReceiverNotes};
@@ -39,9 +42,14 @@ pub struct DatagramSocket {
     control: Arc<ReceiverControl>,
     losses: LossNotes,
     drops: Option<SystemDrops>,
-    // The address from which the last datagram came.
+    // The address from which the last datagram came, and how many bytes it has.
     from: IpAddr,
+    bytes: u64,
     reports: u32,
+    // What came from each address, if somebody looks at that, and how many reports there were since the last window.
+    producers: ProducerTable,
+    is_watched: bool,
+    since_window: u32,
 }
 
 impl DatagramSocket {
@@ -69,7 +77,11 @@ impl DatagramSocket {
             losses: LossNotes::new(),
             drops: None,
             from: IpAddr::V4(Ipv4Addr::UNSPECIFIED),
+            bytes: 0,
             reports: 0,
+            producers: ProducerTable::new(alloc),
+            is_watched: false,
+            since_window: 0,
         })
     }
 
@@ -107,6 +119,7 @@ impl DatagramSocket {
     {
         let (count, from) = self.socket.recv_from(buffer)?;
         self.from = from.ip();
+        self.bytes = count as u64;
         Ok(count)
     }
 
@@ -121,6 +134,19 @@ impl DatagramSocket {
             return true;
         }
         false
+    }
+
+    /// Puts what came since the last window where it is looked at, if it is time and a window is wanted.
+    fn report_producers(&mut self) {
+        let Some(place) = self.notes.producers() else {
+            return;
+        };
+        self.is_watched = place.is_wanted();
+        self.since_window = self.since_window.saturating_add(1);
+        if self.since_window >= REPORTS_A_WINDOW && place.wants_window() {
+            self.since_window = 0;
+            place.put(self.producers.take());
+        }
     }
 
     /// Looks up what the system has dropped, if that is due. It is whenever the receiver closes.
@@ -193,6 +219,13 @@ impl Datagrams for DatagramSocket {
         Ok(count)
     }
 
+    fn note_served(&mut self, served: ServedInput) {
+        if self.is_watched {
+            let from = self.from.to_canonical();
+            self.producers.add(from, served.counts(self.bytes));
+        }
+    }
+
     fn note_bad(&mut self, before: ReaderCounts, now: ReaderCounts, datagram: &[u8]) {
         if !self.notes.wants_example() {
             return;
@@ -208,6 +241,7 @@ impl Datagrams for DatagramSocket {
         self.look_up_drops();
         self.notes
             .note_totals(totals, emptied, self.losses.counts());
+        self.report_producers();
     }
 
     fn note_fault(&mut self, fault: ReadinessFault) {

@@ -2,6 +2,7 @@
 ghost use Rattle.std.specs.Prelude.{◌≡◌, IfErr};
 ghost use Rattle.std.specs.Io.{ReadsAtMost};
 
+use crate::input_counts::ServedInput;
 use mio_loops::{ReadTotals, ReadinessFault};
 use reader_core::ReaderCounts;
 use std::io;
@@ -21,6 +22,9 @@ pub trait Datagrams {
     /// Takes note of what the receiver has counted since it began, and how many names its plan has emptied. Called ten times a
     /// second, or once a turn where turns are longer, and when the receiver ends.
     fn note_totals(&mut self, totals: ReadTotals, emptied: u64);
+
+    /// Takes note that the datagram that was taken last was fed, and what the reader counted of it.
+    fn note_served(&mut self, served: ServedInput);
 
     /// Takes note that the datagram that was taken last, with these bytes, held bad input: what the reader had counted before
     /// and has counted now.

@@ -10,7 +10,8 @@ use std::sync::atomic::{AtomicBool, Ordering};
 use std::sync::{Arc, Mutex};
 
 /// A connection that a receiver hands over: its socket, the address of its producer, the bytes that whoever reads on is fed
-/// first, its place, if places are limited, and the milliseconds at which its last datapoint was accepted, or it was taken.
+/// first, its place, if places are limited, the milliseconds at which its last datapoint was accepted, or it was taken, and those at which
+/// it was taken.
 #[derive(Drop)]
 pub struct HandedStream {
     pub(crate) stream: TcpStream,
@@ -18,6 +19,7 @@ pub struct HandedStream {
     pub(crate) first: Vec<u8>,
     pub(crate) place: Option<Place>,
     pub(crate) last_datapoint: u64,
+    pub(crate) since: u64,
 }
 
 /// Where a receiver puts the connections that it hands over, for the thread that stopped it. A receiver whose run is not the

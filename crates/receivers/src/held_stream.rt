@@ -140,8 +140,8 @@ impl HeldStream {
 
     /// Gives the connection up for another reader, which is fed these bytes first: those of its unfinished line or frame. It is
     /// no loss. Behind these come the bytes that were handed over with it and that nobody has read. If out of memory for them,
-    /// the connection is closed, and that is one.
-    pub(crate) fn hand_over(self, rest: &[u8], peer: IpAddr) -> Option<HandedStream>
+    /// the connection is closed, and that is one. Its producer has this address, and it was taken at these milliseconds.
+    pub(crate) fn hand_over(self, rest: &[u8], peer: IpAddr, since: u64) -> Option<HandedStream>
         ensures { IfSome result (λ handed. handed.first.items ≡ rest.now ++ self.stream.bytes) }
     {
         let HeldStream {
@@ -171,6 +171,7 @@ impl HeldStream {
             first,
             place,
             last_datapoint,
+            since,
         })
     }
 }

@@ -148,6 +148,11 @@ impl IdleTimes {
         }
     }
 
+    /// Whether there is a connection of a token.
+    pub(crate) fn is_held(&self, token: Token) -> bool {
+        self.last_of(token) != NEVER
+    }
+
     /// The connection of a token has left.
     pub(crate) fn note_left(&self, token: Token) {
         if let Some(time) = self.times.get(token.0) {

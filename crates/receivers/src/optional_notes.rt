@@ -6,7 +6,7 @@ ghost use Rattle.receivers.specs.BadInput.{without_emptied};
 use crate::accept::AcceptOutcome;
 use crate::input_counts::without_emptied;
 use crate::refusal::is_final;
-use log_lines::{BadExample, LossCounts, ReceiverCounts, ReceiverNotes, Why};
+use log_lines::{BadExample, LossCounts, ProducerPlace, ReceiverCounts, ReceiverNotes, Why};
 use mio_loops::{ReadTotals, ReadinessFault};
 use std::io;
 use std::io::{Error, ErrorKind};
@@ -117,6 +117,14 @@ impl OptionalNotes {
             emptied,
             connections: totals.connections,
             refused: self.refused,
+        }
+    }
+
+    /// Where it puts what its producers have sent.
+    pub(crate) fn producers(&self) -> Option<&ProducerPlace> {
+        match &self.notes {
+            Some(notes) => Some(notes.producers()),
+            None => None,
         }
     }
 

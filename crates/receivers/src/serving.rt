@@ -91,7 +91,7 @@ fn counts_at<S: Read + Drop>(reads: &ReadLoop<S>, token: Token, plan: &Plan) -> 
     }
 }
 
-/// Tells the listener whether the connection of a token, which was served, sent datapoints and bad input: its reader had
+/// Tells the listener what the connection of a token, which was served, has sent, and whether that was bad: its reader had
 /// counted this before and counts that now.
 fn note_served<S: Read + Drop, A: Accept>(
     listener: &mut A,
@@ -100,7 +100,7 @@ fn note_served<S: Read + Drop, A: Accept>(
     before: InputCounts,
     now: InputCounts,
 ) {
-    listener.note_served(token, now.has_datapoints_since(&before));
+    listener.note_served(token, now.since(&before));
     let faults = now.faults_since(&before);
     if has_more(before.totals.faults, faults) {
         listener.note_bad(token, before.totals.faults, faults, reads.buffer());

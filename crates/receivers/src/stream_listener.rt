@@ -10,7 +10,9 @@ use crate::connections::Connections;
 use crate::control::{ReceiverControl, shared_control};
 use crate::handed_stream::{HandedStream, HandedStreams};
 use crate::held_stream::HeldStream;
+use crate::input_counts::ServedInput;
 use crate::optional_notes::OptionalNotes;
+use crate::producer_tallies::ProducerTallies;
 use crate::refusal::{no_descriptor, refused};
 use crate::stream_port::StreamPort;
 use handover::FirstBytes;
@@ -21,15 +23,12 @@ use reader_core::{ReaderCounts, ReaderKind};
 use relay_base::NoMemory;
 use std::alloc::Global;
 use std::io::Error;
-use std::net::{IpAddr, Ipv4Addr, Net};
+use std::net::{IpAddr, Net};
 use std::sync::Arc;
 
 /// The greatest number of tokens that a wait returns: of what is ready, with the listener and the waker, of all connections,
 /// and of the listener once more.
 const MOST_TOKENS: usize = 2 * MOST_CONNECTIONS + 3;
-
-/// The address of a connection that never was.
-const NO_PEER: IpAddr = IpAddr::V4(Ipv4Addr::UNSPECIFIED);
 
 /// What a wait returns while connections are left that were handed over.
 static ONLY_LISTENER: [Token; 1] = [LISTENER];
@@ -59,8 +58,8 @@ pub struct StreamListener {
     notes: OptionalNotes,
     connections: Arc<Connections>,
     step: ClosingStep,
-    // The address of the connection of each token, or of the last that it had.
-    peers: Vec<IpAddr>,
+    // What the connection of each token has sent, or the last that it had, and from which address.
+    producers: ProducerTallies,
     // The tokens of the last wait, if it returned others than those of what is ready.
     tokens: Vec<Token>,
     // Where its connections go once it is stopped; without it they are closed.
@@ -76,7 +75,7 @@ pub struct StreamListener {
 struct Watch {
     readiness: Readiness,
     connections: Arc<Connections>,
-    peers: Vec<IpAddr>,
+    producers: ProducerTallies,
     tokens: Vec<Token>,
 }
 
@@ -90,7 +89,7 @@ impl Watch {
         let Ok(tokens) = Vec::with_capacity(alloc, MOST_TOKENS) else {
             return Err(ReadinessFault::NoMemory);
         };
-        let Ok(peers) = vec![in alloc; NO_PEER; MOST_CONNECTIONS] else {
+        let Ok(producers) = ProducerTallies::new(alloc) else {
             return Err(ReadinessFault::NoMemory);
         };
         let readiness = readiness_of(net, alloc, listener)?;
@@ -98,11 +97,11 @@ impl Watch {
             Ok(connections) => Ok(Watch {
                 readiness,
                 connections,
-                peers,
+                producers,
                 tokens,
             }),
             Err(fault) => {
-                drop((readiness, tokens, peers));
+                drop((readiness, tokens, producers));
                 Err(fault)
             }
         }
@@ -158,7 +157,7 @@ impl StreamListener {
                 notes: OptionalNotes::none(),
                 connections: watch.connections,
                 step: ClosingStep::Open,
-                peers: watch.peers,
+                producers: watch.producers,
                 tokens: watch.tokens,
                 handed: None,
                 resumed: Vec::new(alloc),
@@ -214,8 +213,9 @@ impl StreamListener {
             first,
             place,
             last_datapoint,
+            since,
         } = handed;
-        self.note_peer(token, peer);
+        self.note_peer(token, peer, since);
         let watched = self.watch(stream, first, token, place);
         if let Some(token) = token {
             self.connections.idle.note_taken_at(token, last_datapoint);
@@ -240,8 +240,9 @@ impl StreamListener {
             first,
             place,
             last_datapoint: _,
+            since,
         } = stream;
-        self.note_peer(token, peer);
+        self.note_peer(token, peer, since);
         self.watch(stream, first, token, place)
     }
 
@@ -278,15 +279,12 @@ impl StreamListener {
         }
     }
 
-    /// Remembers the address of the connection that a token gets. That of IPv4 is known as such also at a port of IPv6.
-    fn note_peer(&mut self, token: Option<Token>, address: IpAddr)
+    /// Remembers the address of the connection that a token gets, which was taken at these milliseconds.
+    fn note_peer(&mut self, token: Option<Token>, address: IpAddr, since: u64)
         ensures { self.new.resumed.items ≡ self.old.resumed.items }
     {
-        let Some(token) = token else {
-            return;
-        };
-        if let Some(peer) = self.peers.get_mut(token.0) {
-            *peer = address.to_canonical();
+        if let Some(token) = token {
+            self.producers.begin(token, address, since);
         }
     }
 
@@ -380,12 +378,14 @@ impl Accept for StreamListener {
         match listener.accept() {
             Ok((stream, peer)) => {
                 self.notes.note_open();
+                let now = self.connections.idle.now();
                 let stream = HandedStream {
                     stream,
                     peer: peer.ip(),
                     first: Vec::new(self.alloc),
                     place,
-                    last_datapoint: self.connections.idle.now(),
+                    last_datapoint: now,
+                    since: now,
                 };
                 self.admit(token, stream)
             }
@@ -402,8 +402,8 @@ impl Accept for StreamListener {
             drop(stream);
             return;
         }
-        let peer = self.peers.get(token.0).copied().unwrap_or(NO_PEER);
-        if let Some(stream) = stream.hand_over(rest, peer) {
+        let (peer, since) = (self.producers.peer(token), self.producers.since(token));
+        if let Some(stream) = stream.hand_over(rest, peer, since) {
             handed.put(stream);
         }
     }
@@ -426,10 +426,17 @@ impl Accept for StreamListener {
         totals.connections = totals.connections.saturating_add(self.resumed.len() as u64);
         self.notes
             .note_totals(totals, emptied, self.connections.losses.counts());
+        if let Some(place) = self.notes.producers() {
+            self.producers.report(place, &self.connections.idle);
+        }
     }
 
-    fn note_served(&mut self, token: Token, has_datapoints: bool) {
-        self.connections.idle.note_served(token, has_datapoints);
+    fn note_served(&mut self, token: Token, served: ServedInput) {
+        self.connections
+            .idle
+            .note_served(token, served.has_datapoints());
+        let bytes = self.connections.take_bytes();
+        self.producers.add(token, bytes, served);
     }
 
     fn note_bad(&mut self, token: Token, before: ReaderCounts, now: ReaderCounts, buffer: &[u8]) {
@@ -441,11 +448,9 @@ impl Accept for StreamListener {
         };
         let piece = &buffer[..last.length.min(buffer.len())];
         let input = LastInput::of_piece(self.kind, piece, last.before);
-        if let (Some(input), Some(from)) = (
-            wrong_with(self.alloc, before, now, input),
-            self.peers.get(token.0),
-        ) {
-            self.notes.note_example(&BadExample { input, from: *from });
+        if let Some(input) = wrong_with(self.alloc, before, now, input) {
+            let from = self.producers.peer(token);
+            self.notes.note_example(&BadExample { input, from });
         }
     }
 

@@ -5,7 +5,7 @@ ghost use Rattle.receivers.specs.Record.{EndsFor, RanOrRefused};
 ghost use Rattle.receivers.specs.Turns.{TurnsProgress};
 
 use crate::accept::Accept;
-use crate::handing::hand_over_if;
+use crate::handing::end_loop;
 use crate::noting_times::NotingTimes;
 use crate::record::{ReceiverRecord, without_memory};
 use crate::serving::serve_until;
@@ -70,10 +70,9 @@ pub fn receive_streams<R: Wait, A: Accept + Drop, D: Door + Drop, T: TimeSource,
     );
     listener.note_totals(reads.totals(), plan.emptied());
     drop(plan);
-    hand_over_if(fault.is_none(), &mut listener, &mut reads);
     ReceiverRecord {
         door,
-        log: reads.close(),
+        log: end_loop(fault.is_none(), &mut listener, reads),
         fault,
     }
 }

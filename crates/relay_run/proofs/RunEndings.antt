@@ -11,13 +11,14 @@ use Rattle.relay_files.proofs.BytesLemmas.{Appends-kept, Appends-nothing, Keeps-
 use Rattle.relay_files.specs.Output.{GrowsByPart}
 use Rattle.relay_files.specs.declared.fault.RelayFault.{RelayFault}
 use Rattle.relay_files.specs.declared.fault.RelayFault.TheVariants.{Output, NoMemory}
+use Rattle.relay_ports.specs.StartFault.{is_start_fault}
 use Rattle.relay_run.specs.Closing.{closing_line, output_fault}
 use Rattle.relay_run.specs.RunEnd.{IfStopped, IfFollowed}
 use Rattle.relay_run.specs.declared.run_command.NextRun.{NextRun}
 use Rattle.relay_run.specs.declared.run_command.RunEnd.{RunEnd}
 use Rattle.relay_run.specs.declared.run_command.RunEnd.TheVariants as end
 use Rattle.relay_files.specs.declared.fault.Status.{Status}
-use Rattle.relay_run.specs.Running.{ready_line, opening, run_text, is_start_fault, is_output_fault, Served, FailsBeforeClosing, ClosesWith, IsThreadFault, RunEnds, RunFails, AtStart, AtLines, OfThread, RelayFails}
+use Rattle.relay_run.specs.Running.{ready_line, opening, run_text, is_output_fault, Served, FailsBeforeClosing, ClosesWith, IsThreadFault, RunEnds, RunFails, AtStart, AtLines, OfThread, RelayFails}
 
 -- the fault of a sender that cannot begin is one of the start
 pub starts-output : (fault : ReadinessFault) → is_start_fault (output_fault fault) ≡ true

@@ -1,4 +1,3 @@
 pub mod Closing
-pub mod LeftDest
 pub mod RunEnd
 pub mod Running

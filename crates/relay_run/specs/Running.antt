@@ -10,9 +10,10 @@ use Rattle.relay_files.specs.Faults.{EndsAt}
 use Rattle.relay_files.specs.Files.{Files}
 use Rattle.relay_files.specs.Output.{GrowsByPart}
 use Rattle.relay_files.specs.declared.fault.RelayFault.{RelayFault}
-use Rattle.relay_files.specs.declared.fault.RelayFault.TheVariants.{Listen, Output, NoMemory}
+use Rattle.relay_files.specs.declared.fault.RelayFault.TheVariants.{Output, NoMemory}
 use Rattle.relay_files.specs.declared.fault.Status.{Status}
 use Rattle.relay_files.specs.declared.source.Sources.{Sources}
+use Rattle.relay_ports.specs.StartFault.{is_start_fault}
 use Rattle.relay_run.specs.Closing.{closing_line, closing_status, input_fault, output_fault}
 
 -- the line that says that all threads have begun
@@ -52,13 +53,6 @@ abbrev pub thread_fault : (receivers senders : List (Option ReadinessFault)) →
 thread_fault receivers senders = receiver_or_sender (first_fault receivers) (first_fault senders)
 
 -- ---- a run whose files are a configuration
-
--- a fault of a relay that has not begun: of a port, of what a sender waits with, or of memory
-abbrev pub is_start_fault : RelayFault → Bool
-is_start_fault (Listen role) = true
-is_start_fault Output = true
-is_start_fault NoMemory = true
-is_start_fault fault = false
 
 -- a fault of the output or of memory
 abbrev pub is_output_fault : RelayFault → Bool

@@ -6,25 +6,24 @@ ghost use Rattle.std.specs.Option.{is_none};
 use crate::end_waits::{DrainWait, EndWait, FilesWait, PartingWait};
 use crate::ended_run::EndedRecord;
 use crate::first_work::FirstWork;
-use crate::listeners::FirstPorts;
 use crate::prepared_run::{PreparedRun, prepared_by};
 use crate::relay::Relay;
 use crate::reload_source::{READING_TIMEOUT_MS, RefusedReload, ReloadSource};
 use crate::spool_folder::SpoolFolder;
 use crate::start::Process;
 use admin_port::{AdminListener, Answers};
-use admin_report::report;
-use conf_text::Dest;
-use dest_queue::Counts;
+use admin_report::{FileCounts, ReportLine, report_with_files};
 use finished_run::Recorder;
 use locked_queues::{Queues, Set};
 use mio_loops::{SystemTimes, TimeSource};
 use receivers::{ClosingWait, ReceiverControl};
 use relay_base::{DestId, NoMemory, add, put};
+use relay_commands::LiveRoutes;
 use relay_files::RunConfiguration;
+use relay_ports::FirstPorts;
 use relay_watchers::{LogEnd, StatusServer};
 use run_state::{DestSources, EndState};
-use spool::SpoolDisk;
+use spool::{SpoolDisk, Waiting, clock_seconds};
 use std::alloc::Global;
 use std::net::Net;
 use std::rt::Clock;
@@ -40,46 +39,72 @@ const READING_PAUSE_MS: u64 = 1;
 /// How many milliseconds a turn waits at most at the end of a run: so late is seen what it waits for.
 const END_PAUSE_MS: u64 = 1;
 
-/// What answers are made of: the queues of a relay with their destinations, and the names of its files.
+/// What answers are made of: the queues of a relay with their destinations, the names of its files, and its routes.
 #[derive(Drop)]
 struct ReportSource<'x, B: Set, F> {
     queues: &'x Queues<B>,
     noted: DestSources<'x>,
     files: &'x F,
+    routes: LiveRoutes<'x>,
     ghost all: { length noted.dests.now ≡ B.dests },
 }
 
 impl<'x, B: Set, F> ReportSource<'x, B, F> {
-    /// The queues of a relay, and its files.
+    /// The queues of a relay, its files and its routes.
     fn new(relay: &'x Relay<B>, files: &'x F) -> ReportSource<'x, B, F> {
         ReportSource {
             queues: &relay.queues,
             noted: relay.noted(),
             files,
+            routes: LiveRoutes::new(&relay.configuration),
         }
     }
 
-    /// The counts of each queue, one after the other: not at one moment.
-    fn counts<R: Wait>(&self, rt: &R, alloc: Global) -> Result<Vec<(Dest, Counts)>, NoMemory> {
+    /// The line of each destination, one after the other: not of one moment.
+    fn lines<R: Wait + Clock>(&self, rt: &R, alloc: Global) -> Result<Vec<ReportLine>, NoMemory> {
+        let clock = clock_seconds(rt);
         let mut lines = Vec::new(alloc);
         for place in 0..self.noted.dests.len() {
             let counts = self.queues.counts(rt, DestId(place));
-            let all = self.noted.counts_at(place, counts);
-            add(&mut lines, (self.noted.dests[place].clone()?, all))?;
+            let line = ReportLine {
+                dest: self.noted.dests[place].clone()?,
+                counts: self.noted.counts_at(place, counts),
+                file: file_counts(self.noted.waiting_at(place), clock),
+            };
+            add(&mut lines, line)?;
         }
         Ok(lines)
     }
 }
 
-impl<'x, B: Set, F: ReloadSource, R: Wait> Answers<R> for ReportSource<'x, B, F> {
+/// What a report says of the file of a destination at this second since 1970: nothing if nothing waits.
+fn file_counts(waiting: Waiting, clock: u64) -> Option<FileCounts> {
+    if waiting.bytes == 0 {
+        return None;
+    }
+    Some(FileCounts {
+        datapoints: waiting.datapoints,
+        bytes: waiting.bytes,
+        age: waiting.age(clock),
+    })
+}
+
+impl<'x, B: Set, F: ReloadSource, R: Wait + Clock> Answers<R> for ReportSource<'x, B, F> {
     fn report(&self, rt: &R, alloc: Global) -> Result<Vec<u8>, NoMemory> {
         let mut text = Vec::new(alloc);
-        report(alloc, self.counts(rt, alloc)?.as_slice(), &mut text)?;
+        report_with_files(alloc, self.lines(rt, alloc)?.as_slice(), &mut text)?;
         Ok(text)
     }
 
     fn files(&self, alloc: Global) -> Result<Vec<u8>, NoMemory> {
         Ok(self.files.names(alloc)?.into_bytes())
+    }
+
+    fn route(&mut self, alloc: Global, name: &[u8]) -> Result<Vec<u8>, NoMemory> {
+        match self.routes.answer(alloc, name)? {
+            Some(answer) => Ok(answer.into_bytes()),
+            None => Ok(Vec::new(alloc)),
+        }
     }
 
     fn key(&self) -> Option<&[u8]> {
@@ -173,7 +198,7 @@ fn answer_until_ended<B: Set, R: Wait + Clock + Net + SpoolDisk + Threads, F: Re
     files: &F,
     folder: Option<SpoolFolder<'_>>,
 ) -> Option<PreparedRun<B>> {
-    let watched = ReportSource::new(relay, files);
+    let mut watched = ReportSource::new(relay, files);
     let times = SystemTimes::since(rt, relay.began);
     let mut reading = None;
     for _ in rt.forever() {
@@ -181,7 +206,7 @@ fn answer_until_ended<B: Set, R: Wait + Clock + Net + SpoolDisk + Threads, F: Re
         say_refusals(rt, alloc, relay, ports, millis);
         if ports
             .admin
-            .take_turn(rt, alloc, &watched, millis, pause_of(reading))
+            .take_turn(rt, alloc, &mut watched, millis, pause_of(reading))
         {
             if let Some(begun) = reading {
                 ports.admin.refuse_reload(begun.connection, millis);
@@ -473,14 +498,14 @@ fn answer_until_over<R: Wait + Clock + Net, B: Set, F: ReloadSource, E: EndWait<
     wait: E,
 ) {
     let mut wait = wait;
-    let watched = ReportSource::new(relay, files);
+    let mut watched = ReportSource::new(relay, files);
     let times = SystemTimes::since(rt, relay.began);
     for _ in rt.forever() {
         let millis = times.millis();
         if wait.is_over(rt, millis) {
             return;
         }
-        let _is_stopped = listener.take_turn(rt, alloc, &watched, millis, END_PAUSE_MS);
+        let _is_stopped = listener.take_turn(rt, alloc, &mut watched, millis, END_PAUSE_MS);
         if !relay.state.signals().is_handing() {
             refuse_reload(listener, millis);
         }

@@ -2,7 +2,6 @@
 
 ghost use Rattle.std.specs.Prelude.{◌≡◌};
 
-use crate::gone_dests::GoneDests;
 use crate::relay::Relay;
 use locked_queues::Set;
 use receivers::ClosingWait;
@@ -10,6 +9,7 @@ use run_state::{Drain, EndState, GoneDrain, Signals, SpoolWait, Unsent};
 use std::rt::Clock;
 use std::sync::Wait;
 use std::time::Duration;
+use store_lines::GoneDests;
 
 /// The milliseconds between two looks at the sender to destinations that are gone.
 const LOOK_MS: u64 = 1;

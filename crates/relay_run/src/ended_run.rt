@@ -4,12 +4,9 @@ ghost use Rattle.std.specs.Prelude.{◌≡◌, ℕ, ◌≤◌, ◌+◌, ◌-◌,
 ghost use Rattle.dest_queue.specs.EarlierCounts.{sum};
 ghost use Rattle.line_text.specs.Print.{printed_lines};
 ghost use Rattle.handover.specs.Rest.{left_text};
-ghost use Rattle.relay_run.specs.LeftDest.{text_left, text_of_both};
+ghost use Rattle.store_lines.specs.LeftDest.{text_left, text_of_both};
 
 use crate::closing::closing_text;
-use crate::dest_slots::DestSlots;
-use crate::gone_dests::GoneDests;
-use crate::left_dest::{LeftDest, counts_of};
 use crate::relay::Relay;
 use crate::shape::Shape;
 use crate::thread_records::Records;
@@ -24,6 +21,7 @@ use relay_files::RunConfiguration;
 use run_state::RunNotes;
 use std::alloc::Global;
 use std::sync::Arc;
+use store_lines::{DestSlots, GoneDests, LeftDest, counts_of};
 
 /// What a run leaves that another one follows: what its record is made of, and, by its own places, what was noted, what is left
 /// for each destination and how much of its queue found no room there, and the connections of each receiver.

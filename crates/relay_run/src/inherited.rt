@@ -1,8 +1,5 @@
 //! What a run begins with that ended runs left to it.
 
-use crate::dest_slots::DestSlots;
-use crate::gone_dests::GoneDests;
-use crate::left_dest::LeftDest;
 use crate::shape::Shape;
 use receivers::HandedStreams;
 use relay_base::{NoMemory, add};
@@ -11,6 +8,7 @@ use run_state::RunNotes;
 use spool::SpoolFiles;
 use std::alloc::Global;
 use std::sync::Arc;
+use store_lines::{DestSlots, GoneDests, LeftDest};
 
 /// What a run begins with that ended runs left to it: what was noted, what is left for each of its destinations, in their
 /// order, the connections of each receiver, the destinations that are gone, what the log has reported of receivers, and its

@@ -1,11 +1,7 @@
 //! What a run begins with that follows another one.
 
-use crate::dest_slots::DestSlots;
 use crate::ended_run::EndedRun;
-use crate::gone_dests::{GoneDests, PartingDest};
 use crate::inherited::Inherited;
-use crate::left_dest::LeftDest;
-use crate::listeners::{FirstPorts, Ports};
 use crate::prepared_run::{KeptPlaces, NextPlan};
 use crate::shape::shape_of;
 use crate::start::{Process, Start};
@@ -13,11 +9,13 @@ use conf_text::Dest;
 use dest_queue::EarlierCounts;
 use log_lines::DestNotes;
 use relay_base::{DestId, NoMemory, add};
+use relay_ports::{FirstPorts, Ports};
 use relay_watchers::{ReceiverLog, StatusServer};
 use run_state::{RestNotes, RunNotes};
 use std::alloc::Global;
 use std::fmt::Write as _;
 use std::mem;
+use store_lines::{DestSlots, GoneDests, LeftDest, PartingDest};
 
 /// The places of the destinations of a run that follows another one: empty lists with room for all. Once they are there,
 /// what is left needs no more memory.

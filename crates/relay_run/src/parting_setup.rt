@@ -1,17 +1,16 @@
 //! The job of the thread that sends to destinations that are gone.
 
 ghost use Rattle.std.specs.Prelude.{◌≡◌, true, IfErr};
-ghost use Rattle.relay_run.specs.Running.{is_start_fault};
+ghost use Rattle.relay_ports.specs.StartFault.{is_start_fault};
 
 use crate::closing::output_fault;
-use crate::parting_job::PartingJob;
 use crate::relay_jobs::JobMaker;
 use crate::runtime::RelayRuntime;
-use crate::sender_places::SenderPlaces;
 use locked_queues::Set;
 use mio_loops::Readiness;
 use relay_files::RelayFault;
 use senders::StoreConnector;
+use store_lines::{PartingJob, SenderPlaces};
 
 /// The job of the sender to destinations that are gone, if there are such, which waits with this readiness.
 pub(crate) fn parting_job<'x, B: Set, R: RelayRuntime>(

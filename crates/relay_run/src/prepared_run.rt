@@ -2,19 +2,21 @@
 
 ghost use Rattle.std.specs.Prelude.{◌≤◌};
 
-use crate::listeners::{BoundPort, FirstPorts};
 use crate::relay::Relay;
 use crate::reload_source::RefusedReload;
 use crate::shortage::{Needs, Shortage, try_needs};
 use crate::spool_folder::{SpoolFolder, open_new_files};
 use admin_client::Refusal;
-use conf_text::{Dest, Setting, Settings};
-use config_changes::{OtherChanges, first_fixed_change, kept_places, place_of, push_reload_line};
+use conf_text::{Dest, Settings};
+use config_changes::{
+    FixedChange, OtherChanges, first_fixed_change, kept_places, place_of, push_reload_line,
+};
 use dest_queue::DestQueue;
 use locked_queues::{BlankTotals, EndRoom, MOST_RECEIVERS, Set};
 use queue_records::READERS_EACH;
 use relay_base::{DestId, MOST_DESTINATIONS, NoMemory, add};
 use relay_files::{RelayFault, RunConfiguration};
+use relay_ports::{BoundPort, FirstPorts};
 use spool::{OpenFault, SpoolDisk, SpoolFiles};
 use std::alloc::Global;
 use std::net::Net;
@@ -52,12 +54,11 @@ pub(crate) fn prepared_by<B: Set, R: SpoolDisk + Net + Threads>(
     configuration: RunConfiguration,
     connection: u64,
 ) -> Result<PreparedRun<B>, RefusedReload> {
-    if let Some(setting) = first_fixed_change(
-        relay.configuration.settings(),
-        configuration.settings(),
-    ) {
+    let (old, new) = (relay.configuration.settings(), configuration.settings());
+    if let Some(setting) = first_fixed_change(old, new) {
+        let refused = needs_restart(alloc, FixedChange { setting, old, new });
         drop(configuration);
-        return Err(needs_restart(alloc, setting));
+        return Err(refused);
     }
     if gone_count(relay, &configuration) > MOST_DESTINATIONS {
         drop(configuration);
@@ -227,12 +228,11 @@ fn reload_line(
 }
 
 /// The refusal of another setting of a port.
-fn needs_restart(alloc: Global, setting: Setting) -> RefusedReload {
-    let name = setting.name();
+fn needs_restart(alloc: Global, change: FixedChange<'_>) -> RefusedReload {
     refused(
         alloc,
         Refusal::Configuration,
-        format!(in alloc; "{name}: needs a restart\n"),
+        format!(in alloc; "{change}: needs a restart\n"),
     )
 }
 

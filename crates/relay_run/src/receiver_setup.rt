@@ -1,19 +1,18 @@
 //! The jobs of receivers' threads, made of seats and ports.
 
 ghost use Rattle.std.specs.Prelude.{◌≡◌, ◌≤◌, ◌<◌, true, length, IfErr};
-ghost use Rattle.relay_run.specs.Running.{is_start_fault};
+ghost use Rattle.relay_ports.specs.StartFault.{is_start_fault};
 
-use crate::listeners::BoundPort;
-use crate::receiver_job::{Inlet, ReceiverJob};
+use crate::receiver_job::ReceiverJob;
 use crate::relay_jobs::JobMaker;
 use crate::runtime::RelayRuntime;
-use crate::shared_listener::Share;
 use crate::thread_jobs::Receiving;
 use locked_queues::{DoorRecord, DoorSeat, LockedDoor, MOST_RECEIVERS, Set};
 use log_lines::ReceiverNotes;
 use receivers::{HandedStreams, ReceiverControl};
 use relay_base::{NoMemory, add};
 use relay_files::RelayFault;
+use relay_ports::{BoundPort, Inlet, PortReceiver, Share};
 use relay_watchers::ReceiverLog;
 use std::sync::Arc;
 
@@ -126,7 +125,9 @@ fn add_noted(
     logs: &mut Vec<ReceiverLog>,
     controls: &mut Vec<Arc<ReceiverControl>>,
 ) -> Result<(), NoMemory> {
-    add(logs, inlet.set_notes(notes)?)?;
+    inlet.set_notes(notes)?;
+    let watched = Arc::clone(notes)?;
+    add(logs, ReceiverLog::new(inlet.name(), inlet.unit(), watched))?;
     add(controls, inlet.control()?)?;
     match handed {
         Some(handed) => inlet.set_handed(handed),
@@ -149,14 +150,17 @@ fn receiver_job<'x, B: Set, R: RelayRuntime>(
         held: relay.state.held(),
         own: receiver,
     };
-    ReceiverJob {
+    let port = PortReceiver {
         inlet,
-        receiver,
-        configuration: &relay.configuration,
-        door,
+        number: receiver,
         share,
         orders: &relay.orders,
-        is_recorded: relay.shape.is_recorded,
         began: relay.began,
+    };
+    ReceiverJob {
+        port,
+        configuration: &relay.configuration,
+        door,
+        is_recorded: relay.shape.is_recorded,
     }
 }

@@ -1,13 +1,9 @@
 //! What a run is made of.
 
 ghost use Rattle.std.specs.Prelude.{◌≡◌, ◌≤◌, true, length, IfErr};
-ghost use Rattle.relay_run.specs.Running.{is_start_fault};
+ghost use Rattle.relay_ports.specs.StartFault.{is_start_fault};
 
-use crate::dest_slots::DestSlots;
-use crate::end_orders::EndOrders;
-use crate::gone_dests::GoneDests;
 use crate::inherited::Inherited;
-use crate::listeners::{BoundPort, FirstPorts, Ports};
 use crate::sender_setup::{alarms_of, watches_of};
 use crate::shape::Shape;
 use crate::start::{Process, Start};
@@ -19,13 +15,15 @@ use mio_loops::Readiness;
 use receivers::HandedStreams;
 use relay_base::{LARGEST_MESSAGE, LARGEST_QUEUE_SIZE, MOST_DESTINATIONS};
 use relay_files::{RelayFault, RunConfiguration};
+use relay_ports::{BoundPort, FirstPorts, Ports};
 use relay_watchers::{LateNews, ReceiverLog, StatusServer};
-use run_state::{DestSources, RunState};
+use run_state::{DestSources, EndOrders, RunState};
 use senders::WakeGate;
 use std::alloc::Global;
 use std::net::Net;
 use std::sync::Arc;
 use std::time::Instant;
+use store_lines::{DestSlots, GoneDests};
 
 /// The name of the set of queues; a run has one.
 pub(crate) const NAME: u64 = 1;
@@ -215,7 +213,7 @@ fn open_relay<B: Set, L: Drop>(
     opened: Opened<B>,
     shared: SharedParts,
     inherited: Inherited,
-    ports: Ports,
+    ports: Ports<StatusServer>,
     log: Option<L>,
     process: &Process<'_>,
     is_first: bool,
@@ -251,6 +249,7 @@ fn open_relay<B: Set, L: Drop>(
         first,
         status,
     } = ports;
+    slots.note_waiting(state.spool_notes());
     OpenRelay {
         relay: Relay {
             configuration,

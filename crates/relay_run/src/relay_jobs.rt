@@ -1,9 +1,8 @@
 //! The jobs of the threads of a relay, made of the parts that each is given.
 
 ghost use Rattle.std.specs.Prelude.{◌≡◌, true, length, IfErr};
-ghost use Rattle.relay_run.specs.Running.{is_start_fault};
+ghost use Rattle.relay_ports.specs.StartFault.{is_start_fault};
 
-use crate::parting_job::PartingJob;
 use crate::parting_setup::parting_job;
 use crate::receiver_job::ReceiverJob;
 use crate::receiver_setup::receivers_of;
@@ -15,10 +14,11 @@ use crate::thread_jobs::{Jobs, all_jobs};
 use locked_queues::Set;
 use relay_base::NoMemory;
 use relay_files::RelayFault;
-use relay_watchers::{GoneSources, LogJob, ReceiverLog, StatusJob, Watched, watchers_of};
+use relay_watchers::{LogJob, ReceiverLog, StatusJob, Watched, watchers_of};
 use senders::HostThreads;
 use std::alloc::Global;
 use std::io::Write;
+use store_lines::PartingJob;
 
 /// What makes the jobs of a relay's threads.
 #[derive(Drop)]
@@ -98,10 +98,7 @@ fn watching_of<'x, B: Set, R, L: Write + Drop>(
     let watched = Watched {
         queues: &relay.queues,
         noted: relay.noted(),
-        gone: GoneSources {
-            dests: relay.gone.shown.as_slice(),
-            files: relay.gone.files.as_slice(),
-        },
+        gone: relay.gone.sources(),
         late_news: &relay.late_news,
         size: relay.shape.size,
         version: relay.shape.version(),

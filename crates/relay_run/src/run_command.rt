@@ -22,16 +22,13 @@ use crate::admin::{FirstState, RunBefore};
 use crate::closing::write_end;
 use crate::ended_run::{EndedRun, ended_of};
 use crate::inherited::Inherited;
-use crate::listeners::FirstPorts;
 use crate::next_start::{places_after, start_after};
-use crate::options::RunOptions;
 use crate::prepared_run::{NextPlan, PreparedRun};
 use crate::relay::{NAME, OpenRelay, Parts, Relay};
 use crate::reload_source::ReloadSource;
 use crate::running::run_until_ended;
 use crate::runtime::RelayRuntime;
 use crate::spool_folder::{SpoolFolder, put_failures};
-use crate::spool_left::spool_slots;
 use crate::start::{Process, Start};
 use crate::thread_records::{Records, RunLeft};
 use finished_run::Recorder;
@@ -39,6 +36,7 @@ use locked_queues::Set;
 use mio_loops::{SystemTimes, TimeSource};
 use relay_base::NoMemory;
 use relay_files::{RelayFault, RunConfiguration, Source, Sources, Status};
+use relay_ports::{FirstPorts, RunOptions};
 use relay_watchers::{LogEnd, StatusServer};
 use senders::HostThreads;
 use std::alloc::Global;
@@ -47,13 +45,15 @@ use std::marker::Brand;
 use std::mem;
 use std::rt::Clock;
 use std::time::Instant;
+use store_lines::spool_slots;
 
 /// Runs a relay until its admin port takes `stop`, and settles.
 ///
 /// It reads the files as `check` does, binds the ports of lines, pickles, datagrams and commands, in this order, starts a
 /// thread for each receiver and each sender, waits until each has the memory that it needs to begin, and writes `ready`
 /// and byte 10. Then 127.0.0.1 takes commands at the admin port, one for each connection: it answers `report` with the
-/// report, `stop` with `stopping`, and all else with `unknown command`. After `stop` it joins the threads, compares the
+/// report, `stop` with `stopping`, `reload` once the run that follows has begun, `files` with what a reload reads, and all
+/// else with `unknown command`. After `stop` it joins the threads, compares the
 /// queues' counts and histories with what the threads recorded, and writes one line: `settled`, `sealed D`, `totals D`,
 /// `differs D N`, `no order` or `strangers`, where D is a destination's place in DESTINATIONS.
 ///

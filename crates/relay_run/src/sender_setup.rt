@@ -1,13 +1,12 @@
 //! The jobs of senders' threads, made of seats, what each waits with, and its places.
 
 ghost use Rattle.std.specs.Prelude.{◌≡◌, ◌≤◌, ◌<◌, true, length, IfErr};
-ghost use Rattle.relay_run.specs.Running.{is_start_fault};
+ghost use Rattle.relay_ports.specs.StartFault.{is_start_fault};
 
 use crate::closing::output_fault;
 use crate::relay_jobs::JobMaker;
 use crate::runtime::RelayRuntime;
 use crate::sender_job::SenderJob;
-use crate::sender_places::SenderPlaces;
 use locked_queues::{Outlet, OutletSeat, Set};
 use mio_loops::Readiness;
 use relay_base::{NoMemory, add};
@@ -15,6 +14,7 @@ use relay_files::RelayFault;
 use senders::{Alarm, StoreConnector};
 use std::alloc::Global;
 use std::net::Net;
+use store_lines::{LineSender, SenderPlaces, Share};
 
 /// How many sockets of a sender may become ready in one wait: a connection for each destination, and its alarm.
 const SENDER_EVENTS: usize = 128;
@@ -108,12 +108,25 @@ fn sender_job<'x, B: Set, R: RelayRuntime>(
         return Err(RelayFault::NoMemory);
     };
     let relay = maker.relay;
-    Ok(SenderJob {
-        relay,
-        number: sender,
+    let lines = LineSender {
         connector,
         places,
+        share: Share {
+            slots: &relay.slots,
+            dests: relay.shape.dests,
+            sender,
+            senders: relay.shape.senders,
+        },
+        limit: relay.shape.limit,
+        orders: &relay.orders,
+        end: relay.state.end(),
+    };
+    Ok(SenderJob {
+        number: sender,
+        lines,
         outlet: Outlet::new(maker.rt, &relay.queues, seat, &relay.gate),
+        is_recorded: relay.shape.is_recorded,
+        began: relay.began,
     })
 }
 

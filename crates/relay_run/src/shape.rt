@@ -2,12 +2,12 @@
 
 ghost use Rattle.std.specs.Prelude.{◌≡◌, ◌≤◌, length};
 
-use crate::options::StatusOptions;
 use crate::start::Process;
 use conf_text::Settings;
 use finished_run::RunShape;
 use locked_queues::{MOST_RECEIVERS, MOST_SENDERS};
 use relay_base::{LARGEST_MESSAGE, LARGEST_QUEUE_SIZE, MOST_DESTINATIONS};
+use relay_ports::StatusOptions;
 
 /// The numbers of receivers and senders, and how they run.
 #[derive(Clone, Copy)]

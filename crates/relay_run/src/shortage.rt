@@ -3,13 +3,13 @@
 //! A reload tries what the next run needs before it changes anything, and gives all back at once: what another program takes
 //! before that run has begun is missing then all the same.
 
-use crate::descriptors::free_descriptors;
 use crate::relay::Relay;
 use conf_text::Dest;
 use config_changes::place_of;
 use locked_queues::Set;
 use relay_base::{NoMemory, add};
 use relay_files::RunConfiguration;
+use relay_ports::free_descriptors;
 use std::alloc::Global;
 use std::net::{IpAddr, Net};
 use std::sync::Arc;

@@ -1,19 +1,20 @@
 //! What a run begins with, before its queues are made.
 
 ghost use Rattle.std.specs.Prelude.{◌≡◌, ◌≤◌, true, length, IfErr};
-ghost use Rattle.relay_run.specs.Running.{is_start_fault};
+ghost use Rattle.relay_ports.specs.StartFault.{is_start_fault};
 
 use crate::inherited::Inherited;
-use crate::listeners::{Ports, bind_all};
-use crate::options::RunOptions;
 use crate::runtime::RelayRuntime;
 use crate::shape::{Shape, shape_of};
 use crate::spool_folder::{SpoolFolder, open_files};
 use conf_text::Settings;
 use locked_queues::BlankTotals;
 use relay_files::{RelayFault, RunConfiguration};
+use relay_ports::{Ports, RunOptions, bind_all};
+use relay_watchers::StatusServer;
 use senders::HostThreads;
 use spool::OpenFault;
+use status_server::StatusListener;
 use std::alloc::Global;
 use std::time::Instant;
 
@@ -23,7 +24,7 @@ use std::time::Instant;
 pub(crate) struct Start {
     pub(crate) configuration: RunConfiguration,
     pub(crate) shape: Shape,
-    pub(crate) ports: Ports,
+    pub(crate) ports: Ports<StatusServer>,
     pub(crate) blank: BlankTotals,
     pub(crate) inherited: Inherited,
     ghost dests: { (shape.dests ≡ length configuration.settings.routing.destinations)
@@ -68,7 +69,7 @@ impl Start {
     {
         let settings = configuration.settings();
         let ports = match bind_all(rt, alloc, settings, process.options) {
-            Ok(ports) => ports,
+            Ok(ports) => with_server(alloc, ports),
             Err(fault) => {
                 drop(configuration);
                 return Err(fault);
@@ -89,6 +90,24 @@ impl Start {
                 Err(put_fault(process.folder, fault))
             }
         }
+    }
+}
+
+/// The ports, with the status server in place of its listener.
+fn with_server(alloc: Global, ports: Ports<StatusListener>) -> Ports<StatusServer> {
+    let Ports {
+        receivers,
+        first,
+        status,
+    } = ports;
+    let status = match status {
+        Some(listener) => Some(StatusServer::new(alloc, listener)),
+        None => None,
+    };
+    Ports {
+        receivers,
+        first,
+        status,
     }
 }
 

@@ -1,7 +1,7 @@
 //! The jobs of a run's threads.
 
 ghost use Rattle.std.specs.Prelude.{◌≡◌, true, IfErr};
-ghost use Rattle.relay_run.specs.Running.{is_start_fault};
+ghost use Rattle.relay_ports.specs.StartFault.{is_start_fault};
 
 use locked_queues::DoorRecord;
 use receivers::ReceiverControl;

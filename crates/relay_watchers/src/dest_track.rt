@@ -2,7 +2,7 @@
 
 ghost use Rattle.std.specs.Prelude.{◌≤◌, ◌<◌, length};
 
-use crate::status_history::{NO_RATES, rates_of};
+use crate::status_history::{NO_RATES, a_second, rates_of};
 use dest_queue::Counts;
 use log_lines::DestStatus;
 use status_page::{Rates, Sample};
@@ -22,6 +22,7 @@ const MOST_LOSSES: usize = 60;
 pub(crate) struct DestLook {
     pub(crate) counts: Counts,
     pub(crate) status: DestStatus,
+    pub(crate) passed: u64,
     pub(crate) millis: u64,
 }
 
@@ -50,6 +51,9 @@ pub(crate) struct DestTrack {
     last: Counts,
     sampled: Counts,
     rates: Rates,
+    // How many datapoints of its file connections had taken in the run at the last sample, and took in each second of that.
+    passed: u64,
+    spool_rate: u64,
     // When the queue last gave something to a connection, when it was last seen to move or empty, and when it last dropped
     // something; with how many errors were noted then.
     written_at: u64,
@@ -76,6 +80,8 @@ impl DestTrack {
             last: NO_COUNTS,
             sampled: NO_COUNTS,
             rates: NO_RATES,
+            passed: 0,
+            spool_rate: 0,
             written_at: 0,
             moved_at: 0,
             dropped_at: 0,
@@ -116,6 +122,9 @@ impl DestTrack {
             dropped: now.dropped.saturating_sub(before.dropped),
         });
         self.sampled = now;
+        let passed = look.passed.saturating_sub(self.passed);
+        self.spool_rate = a_second(passed, millis.max(1));
+        self.passed = look.passed;
     }
 
     /// Notes when something last went wrong with the connection.
@@ -167,6 +176,11 @@ impl DestTrack {
     /// What its queue counted in each second of the last sample.
     pub(crate) fn rates(&self) -> Rates {
         self.rates
+    }
+
+    /// How many datapoints of its file connections took in each second of the last sample.
+    pub(crate) fn spool_rate(&self) -> u64 {
+        self.spool_rate
     }
 
     /// When its queue last gave something to a connection, in milliseconds; 0 if it never did.

@@ -8,19 +8,18 @@
 
 mod dest_rest;
 mod dest_track;
-mod gone_dest;
 mod late_news;
 mod log_buffer;
 mod log_job;
 mod log_writes;
 mod process;
+mod producer_history;
 mod receiver_log;
 mod receiver_track;
 mod status_history;
 mod status_job;
 mod watchers;
 
-pub use gone_dest::{GoneDest, GoneSources};
 pub use late_news::LateNews;
 pub use log_buffer::LogBuffer;
 pub use log_job::{LogEnd, LogJob};

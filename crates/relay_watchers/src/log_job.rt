@@ -3,7 +3,6 @@
 ghost use Rattle.std.specs.Prelude.{◌≡◌, ◌<◌, length};
 
 use crate::dest_rest::{DestRest, RestOfAll};
-use crate::gone_dest::GoneSources;
 use crate::late_news::LateNews;
 use crate::log_writes::{write_dest_end, write_gone_end, write_line, write_text};
 use crate::receiver_log::ReceiverLog;
@@ -15,7 +14,7 @@ use log_lines::{
 };
 use mio_loops::{SystemTimes, TimeSource};
 use relay_base::{DestId, NoMemory, add};
-use run_state::{DestSources, EndState, Signals, ThreadWork, Unsent, bit};
+use run_state::{DestSources, EndState, GoneSources, Signals, ThreadWork, Unsent, bit};
 use spool::{MOST_NEWS, SpoolNotes};
 use std::alloc::{AllocError, Global};
 use std::io::Write;

@@ -6,8 +6,6 @@ use status_page::ProcessCounts;
 use std::alloc::{AllocError, Global};
 use std::fs::{Files, OpenOptions};
 use std::io::Read;
-use std::rt::Clock;
-use std::time::{SystemTime, UNIX_EPOCH};
 
 /// The room for a file of the system; more of it is not read.
 const ROOM: usize = 4_096;
@@ -60,17 +58,6 @@ fn host_name<R: Files>(rt: &R, alloc: Global) -> Result<String, AllocError> {
         }
     }
     Ok(name)
-}
-
-/// The time now, in seconds since 1970; 0 if the system does not say.
-pub(crate) fn clock_seconds<R: Clock>(rt: &R) -> u64 {
-    let Ok(now) = SystemTime::now(rt) else {
-        return 0;
-    };
-    match now.duration_since(UNIX_EPOCH) {
-        Ok(passed) => passed.as_secs(),
-        Err(_) => 0,
-    }
 }
 
 /// Reads the first bytes of a file, as many as there is room for, and returns how many.

@@ -2,8 +2,9 @@
 
 use log_lines::{
     InputUnit, LoggedCounts, LoggedExample, LoggedLosses, LoggedReceiver, LoggedRefusals,
-    ReceiverCounts, ReceiverNotes, has_bad, has_lost, push_example_line, push_losses_line,
-    push_lost_receiver_line, push_receiver_counts_line, push_receiver_line, push_refusals_line,
+    ProducerWindow, ReceiverCounts, ReceiverNotes, has_bad, has_lost, push_example_line,
+    push_losses_line, push_lost_receiver_line, push_receiver_counts_line, push_receiver_line,
+    push_refusals_line,
 };
 use relay_base::{NoMemory, add};
 use status_page::ReceiverSnapshot;
@@ -128,6 +129,16 @@ pub(crate) struct WatchedReceiver {
 }
 
 impl WatchedReceiver {
+    /// From now on it tells what its producers have sent.
+    pub(crate) fn want_producers(&self) {
+        self.notes.producers().want();
+    }
+
+    /// What its producers have sent since the last such call, if it has told that.
+    pub(crate) fn take_producers(&self) -> Option<ProducerWindow> {
+        self.notes.producers().take()
+    }
+
     /// What it has counted.
     pub(crate) fn counts(&self) -> ReceiverCounts {
         self.notes.counts()

@@ -3,9 +3,10 @@
 ghost use Rattle.std.specs.Prelude.{◌≤◌, length, IfOk};
 
 use crate::dest_track::{DestLook, DestTrack};
+use crate::producer_history::{ProducerHistory, SeenProducers};
 use crate::receiver_track::ReceiverTrack;
 use dest_queue::Counts;
-use log_lines::{DestStatus, ReceiverCounts};
+use log_lines::{DestStatus, ProducerWindow, ReceiverCounts};
 use relay_base::{DestId, NoMemory, add};
 use status_page::{Rates, Sample};
 use std::alloc::{AllocError, Global};
@@ -25,6 +26,8 @@ pub(crate) const LOOK_MS: u64 = 100;
 pub(crate) struct Totals {
     pub(crate) queues: Vec<Counts>,
     pub(crate) dests: Vec<DestStatus>,
+    // How many datapoints of each destination's file connections took in this run.
+    pub(crate) passed: Vec<u64>,
     pub(crate) receivers: Vec<ReceiverCounts>,
 }
 
@@ -42,6 +45,7 @@ pub(crate) struct StatusHistory {
     input_at: u64,
     dests: Vec<DestTrack>,
     receivers: Vec<ReceiverTrack>,
+    producers: ProducerHistory,
     samples: Vec<Sample>,
     // No more than MOST_SAMPLES.
     ghost few: { length samples.items ≤ 150 },
@@ -59,6 +63,7 @@ impl StatusHistory {
             input_at: 0,
             dests: Vec::new(alloc),
             receivers: Vec::new(alloc),
+            producers: ProducerHistory::new(alloc),
             samples: Vec::new(alloc),
         }
     }
@@ -95,10 +100,17 @@ impl StatusHistory {
         let is_sample = millis.saturating_sub(self.sampled) >= SAMPLE_SECONDS * 1_000;
         let passed = millis.saturating_sub(self.sampled).max(1);
         let looks = now.queues.as_slice().iter().zip(now.dests.as_slice());
-        for (track, (counts, status)) in self.dests.as_mut_slice().iter_mut().zip(looks) {
+        let looks = looks.zip(now.passed.as_slice());
+        for (track, ((counts, status), of_file)) in self
+            .dests
+            .as_mut_slice()
+            .iter_mut()
+            .zip(looks)
+        {
             let look = DestLook {
                 counts: *counts,
                 status: *status,
+                passed: *of_file,
                 millis,
             };
             track.look(&look);
@@ -117,6 +129,20 @@ impl StatusHistory {
             self.take_sample(now, passed);
             self.sampled = millis;
         }
+    }
+
+    /// A receiver of this place has told what its producers sent.
+    pub(crate) fn put_producers(&mut self, receiver: usize, window: ProducerWindow, millis: u64) {
+        self.producers.put(receiver, window, millis);
+    }
+
+    /// The greatest producers at these milliseconds.
+    pub(crate) fn producers(
+        &self,
+        alloc: Global,
+        millis: u64,
+    ) -> Result<SeenProducers, AllocError> {
+        self.producers.seen(alloc, millis)
     }
 
     /// Has a place for what is seen of each destination and each receiver.

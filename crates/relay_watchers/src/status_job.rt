@@ -3,7 +3,7 @@
 ghost use Rattle.std.specs.Prelude.{◌≡◌, ◌<◌, length};
 
 use crate::dest_track::DestTrack;
-use crate::process::{SystemFacts, clock_seconds};
+use crate::process::SystemFacts;
 use crate::receiver_log::WatchedReceiver;
 use crate::status_history::{NO_RATES, SAMPLE_SECONDS, StatusHistory, Totals};
 use conf_text::Dest;
@@ -14,8 +14,10 @@ use md5::DIGEST_LEN;
 use mio_loops::{SystemTimes, TimeSource};
 use relay_base::DestId;
 use run_state::{DestSources, Signals, ThreadWork};
+use spool::{Waiting, clock_seconds};
 use status_page::{
-    ConnectionCounts, DestSnapshot, ReceiverSnapshot, Snapshot, push_json, push_metrics, push_page,
+    ConnectionCounts, DestSnapshot, ReceiverSnapshot, Snapshot, SpoolSnapshot, push_json,
+    push_metrics, push_page,
 };
 use status_server::{Page, StatusListener, StatusTexts};
 use std::alloc::{AllocError, Global};
@@ -58,11 +60,13 @@ impl<'x, B: Set> StatusWatch<'x, B> {
         let mut totals = Totals {
             queues: Vec::new(alloc),
             dests: Vec::new(alloc),
+            passed: Vec::new(alloc),
             receivers: Vec::new(alloc),
         };
         for place in 0..self.noted.dests.len() {
             let counts = self.counts_at(rt, place);
             totals.queues.push(counts)?;
+            totals.passed.push(self.noted.passed_at(place))?;
             if let Some(notes) = self.noted.notes.get(place) {
                 totals.dests.push(notes.status(counts.dropped, true))?;
             }
@@ -71,6 +75,15 @@ impl<'x, B: Set> StatusWatch<'x, B> {
             totals.receivers.push(receiver.counts())?;
         }
         Ok(totals)
+    }
+
+    /// Has the history see what producers have sent.
+    fn take_producers(&self, history: &mut StatusHistory, millis: u64) {
+        for (place, receiver) in self.receivers.as_slice().iter().enumerate() {
+            if let Some(window) = receiver.take_producers() {
+                history.put_producers(place, window, millis);
+            }
+        }
     }
 
     /// The state of a destination, which exists.
@@ -98,6 +111,7 @@ impl<'x, B: Set> StatusWatch<'x, B> {
             snapshot.connections.failed_tries = status.failures;
             snapshot.writes = notes.writes();
         }
+        snapshot.spool = spool_of(self.noted.waiting_at(place), times);
         if let Some(track) = history.dest(place) {
             add_track(&mut snapshot, track, times);
         }
@@ -188,6 +202,17 @@ fn unseen_dest(dest: Dest, counts: Counts, size: u64, times: &ViewTimes) -> Dest
         stalled: 0,
         oldest: 0,
         drop_age: None,
+        spool: spool_of(Waiting::nothing(), times),
+    }
+}
+
+/// What waits in the file of a destination, at a moment.
+fn spool_of(waiting: Waiting, times: &ViewTimes) -> SpoolSnapshot {
+    SpoolSnapshot {
+        datapoints: waiting.datapoints,
+        bytes: waiting.bytes,
+        age: waiting.age(times.clock),
+        rate: 0,
     }
 }
 
@@ -199,6 +224,7 @@ fn add_track(snapshot: &mut DestSnapshot, track: &DestTrack, times: &ViewTimes) 
     snapshot.stalled = track.stalled(times.millis);
     snapshot.oldest = track.oldest(&snapshot.counts, times.millis);
     snapshot.drop_age = track.drop_age(times.millis);
+    snapshot.spool.rate = track.spool_rate();
     if track.written_at() > 0 {
         snapshot.written_at = times.second_of(track.written_at());
     }
@@ -231,6 +257,7 @@ impl<B: Set, R: Wait + SystemFacts> StatusView<'_, '_, B, R> {
         let dests = watch.dests(self.rt, self.alloc, self.history, &times)?;
         let receivers = watch.receivers(self.alloc, self.history, &times)?;
         let queued = queued_in(dests.as_slice());
+        let producers = self.history.producers(self.alloc, times.millis)?;
         Ok(Snapshot {
             version: String::from_str(self.alloc, watch.version)?,
             configuration: hex::encode(self.alloc, &watch.configuration[..SUM_BYTES])?,
@@ -247,6 +274,8 @@ impl<B: Set, R: Wait + SystemFacts> StatusView<'_, '_, B, R> {
             process: self.rt.process_counts(),
             dests,
             receivers,
+            producers: producers.greatest,
+            other_producers: producers.others,
             sample_seconds: SAMPLE_SECONDS,
             samples: self.history.samples(self.alloc)?,
         })
@@ -369,6 +398,7 @@ fn look_when_due<B: Set, R: Wait>(
     millis: u64,
 ) {
     if history.is_due(millis) {
+        watch.take_producers(history, millis);
         if let Ok(totals) = watch.totals(rt, alloc) {
             history.look(alloc, &totals, millis);
         }

@@ -2,15 +2,14 @@
 
 ghost use Rattle.std.specs.Prelude.{◌≡◌, length};
 
-use crate::gone_dest::GoneSources;
 use crate::late_news::LateNews;
 use crate::log_job::{LogJob, log_to};
-use crate::receiver_log::{ReceiverLog, watched_of};
+use crate::receiver_log::{ReceiverLog, WatchedReceiver, watched_of};
 use crate::status_job::{StatusJob, StatusServer, StatusWatch, status_at};
 use locked_queues::{Queues, Set};
 use md5::DIGEST_LEN;
 use relay_base::NoMemory;
-use run_state::DestSources;
+use run_state::{DestSources, GoneSources};
 use std::alloc::Global;
 use std::io::Write;
 use std::time::Instant;
@@ -51,6 +50,9 @@ pub fn watchers_of<'x, B: Set, L: Write + Drop>(
     requires all { length watched.now.noted.dests.now ≡ B.dests }
 {
     let shown = watched_of(alloc, receivers.as_slice())?;
+    if server.is_some() {
+        want_producers(shown.as_slice());
+    }
     let logging = log_to(
         alloc,
         watched.queues,
@@ -72,4 +74,11 @@ pub fn watchers_of<'x, B: Set, L: Write + Drop>(
         configuration: watched.configuration,
     };
     Ok((logging, status_at(server, watch, watched.began)))
+}
+
+/// Has these receivers tell what their producers send.
+fn want_producers(receivers: &[WatchedReceiver]) {
+    for receiver in receivers {
+        receiver.want_producers();
+    }
 }

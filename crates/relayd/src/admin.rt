@@ -14,7 +14,19 @@ use note_text::Notes;
 use relay_base::NoMemory;
 use relay_files::{Status, write_out};
 use std::alloc::Global;
-use std::io::Write;
+use std::io::{IsTerminal, Write};
+
+/// The words before a reason why files were not read.
+const UNREAD: [&[u8]; 4] = [
+    b"files: ",
+    b"config: cannot read",
+    b"rules: cannot read",
+    b"rewrite: cannot read",
+];
+
+/// The hint after a fault of the admin port, at a terminal.
+const HINT: &str =
+    "relayd: note: ps -o args -C relayd shows the --admin and --admin-key of a running relay\n";
 
 /// Prints what the relay with this admin port has counted, in this form.
 pub fn report(rt: &HostRuntime, alloc: Global, admin: &AdminAt, form: OutputForm) -> Status {
@@ -72,33 +84,29 @@ pub fn stop(rt: &HostRuntime, alloc: Global, admin: &AdminAt, waits: bool) -> St
 }
 
 /// Has the relay with this admin port read its files again, and prints what it answers: `reloaded` and what changed, or on
-/// standard error why it goes on as it was. If notes are asked for, it reads the same files before.
+/// standard error why it goes on as it was. If notes are asked for, it reads the same files then, unless they did not answer
+/// the relay.
 pub fn reload(rt: &HostRuntime, alloc: Global, admin: &AdminAt, explain: Explain) -> Status {
     let key = match key_at(rt, alloc, &admin.key) {
         Ok(key) => key,
         Err(status) => return status,
     };
     let relay = relay_at(admin, &key);
-    let notes = match explain {
-        Explain::Nothing => Ok(None),
-        _ => notes_of_relay(rt, alloc, relay),
+    let answer = match answer_to(rt, alloc, relay, AdminCommand::Reload) {
+        Ok(answer) => answer,
+        Err(fault) => return status_of(rt, admin.port, Err(fault)),
     };
-    let status = match answer_to(rt, alloc, relay, AdminCommand::Reload) {
-        Ok(answer) => {
-            let status = say_answer(rt, answer.as_slice());
-            drop(answer);
-            status
-        }
-        Err(fault) => status_of(rt, admin.port, Err(fault)),
-    };
-    if let Ok(Some(notes)) = notes {
-        let _ = write(rt, Ok(notes));
+    let status = say_answer(rt, answer.as_slice());
+    let are_read = !are_unread(answer.as_slice());
+    drop(answer);
+    if are_read && explain != Explain::Nothing {
+        write_notes(rt, alloc, relay);
     }
     status
 }
 
 /// The relay with this admin port and key.
-fn relay_at<'k>(admin: &AdminAt, key: &'k Option<Vec<u8>>) -> RelayAt<'k> {
+pub fn relay_at<'k>(admin: &AdminAt, key: &'k Option<Vec<u8>>) -> RelayAt<'k> {
     RelayAt {
         port: admin.port,
         key: slice_of(key),
@@ -117,6 +125,26 @@ fn say_answer(rt: &HostRuntime, answer: &[u8]) -> Status {
             let _ = eprintln!(rt; "relayd: {}", AdminFault::Output);
             Status::DeviceFault
         }
+    }
+}
+
+/// Whether a relay answers that a file was not read, and why: it may never be.
+fn are_unread(answer: &[u8]) -> bool {
+    let Some(ReloadAnswer::Refused { text, .. }) = reload_answer_in(answer) else {
+        return false;
+    };
+    for words in UNREAD {
+        if text.starts_with(words) {
+            return true;
+        }
+    }
+    false
+}
+
+/// Writes the notes of the files that a relay reads at a reload, if it names them and there is memory.
+fn write_notes(rt: &HostRuntime, alloc: Global, relay: RelayAt<'_>) {
+    if let Ok(Some(notes)) = notes_of_relay(rt, alloc, relay) {
+        let _ = write(rt, Ok(notes));
     }
 }
 
@@ -158,7 +186,7 @@ fn status_of_refusal(refusal: Refusal) -> Status {
 }
 
 /// The status of a command for the relay with this admin port, with its fault on standard error.
-fn status_of(rt: &HostRuntime, port: u16, ended: Result<(), AdminFault>) -> Status {
+pub fn status_of(rt: &HostRuntime, port: u16, ended: Result<(), AdminFault>) -> Status {
     match ended {
         Ok(()) => Status::Done,
         Err(AdminFault::NoMemory) => {
@@ -169,8 +197,15 @@ fn status_of(rt: &HostRuntime, port: u16, ended: Result<(), AdminFault>) -> Stat
             let _ = eprintln!(rt; "relayd: {}", AdminFault::Output);
             Status::DeviceFault
         }
+        Err(AdminFault::LongName) => {
+            let _ = eprintln!(rt; "relayd: name: {}", AdminFault::LongName);
+            Status::ConfigurationFault
+        }
         Err(fault) => {
             let _ = eprintln!(rt; "relayd: admin: 127.0.0.1:{port}: {fault}");
+            if rt.stderr().is_terminal() {
+                let _ = rt.stderr().write_all(HINT.as_bytes());
+            }
             Status::DeviceFault
         }
     }

@@ -7,7 +7,7 @@ use crate::open_files::Files;
 use crate::reread_files::{RereadFile, RereadFiles};
 use crate::spool_folder::notes_of_folder;
 use crate::system_faults::{settings_of, write_fault_notes, write_hint};
-use command_line::{Explain, Invocation, Paths};
+use command_line::{AskedNames, Explain, Invocation, Paths};
 use config_notes::{NotesWanted, RunLimits, notes_of_files};
 use fault_notes::{Seconds, WatchedInput, notes_of_fault, notes_of_name, notes_of_names};
 use line_text::Moment;
@@ -43,6 +43,12 @@ pub fn end_with_notes(
             }
             return status;
         }
+        Invocation::LiveRoute { asked, explain, .. } => {
+            if *explain != Explain::Nothing && status != Status::NoMemory {
+                let _ = write(rt, notes_of_asked(files, alloc, asked));
+            }
+            return status;
+        }
         Invocation::Check { paths, explain, .. }
         | Invocation::Route { paths, explain, .. }
         | Invocation::RouteNames { paths, explain, .. }
@@ -54,7 +60,7 @@ pub fn end_with_notes(
     if status == Status::NoMemory {
         return status;
     }
-    // A relay that was stopped has had its notes from `check`, and so has one that is restarted.
+    // A relay that was stopped has had its notes at its start, and so has one that is restarted.
     if matches!(
         invocation,
         Invocation::Run { .. } | Invocation::Restart { .. }
@@ -106,12 +112,22 @@ pub fn end_with_notes(
     status
 }
 
+/// Writes the notes of the files at these paths, which were checked and have no fault, as `check` writes them. If there is no
+/// memory for them, there are none.
+pub fn write_start_notes(files: &Files<'_>, alloc: Global, paths: &Paths) {
+    let _ = write(
+        files.runtime(),
+        notes_at(files, alloc, paths, true, NotesWanted::All),
+    );
+}
+
 /// Whether a command reads files again for notes.
 pub fn wants_notes(invocation: &Invocation) -> bool {
     match invocation {
         Invocation::Check { explain, .. }
         | Invocation::Route { explain, .. }
         | Invocation::RouteNames { explain, .. }
+        | Invocation::LiveRoute { explain, .. }
         | Invocation::Replay { explain, .. }
         | Invocation::ReplayLines { explain, .. }
         | Invocation::Run { explain, .. }
@@ -143,6 +159,14 @@ fn notes_of_spool(
     notes
 }
 
+/// Notes of the names of which a running relay was asked.
+fn notes_of_asked(files: &Files<'_>, alloc: Global, asked: &AskedNames) -> Result<Notes, NoMemory> {
+    match asked {
+        AskedNames::Name(name) => notes_of_name(alloc, name),
+        AskedNames::File(path) => notes_of_names_at(files, alloc, path),
+    }
+}
+
 /// Notes of a file of names.
 fn notes_of_names_at(files: &Files<'_>, alloc: Global, path: &String) -> Result<Notes, NoMemory> {
     let file = RereadFile::new(files, alloc, path)?;
@@ -161,7 +185,7 @@ pub fn write(rt: &HostRuntime, notes: Result<Notes, NoMemory>) -> bool {
 }
 
 /// The notes of the files at these paths, which are read again: of their first fault, or, if they have none, of what they
-/// may not intend.
+/// may not intend; a run and a restart have had those.
 fn notes_of(
     files: &Files<'_>,
     alloc: Global,
@@ -169,8 +193,23 @@ fn notes_of(
     paths: &Paths,
     wanted: NotesWanted,
 ) -> Result<Notes, NoMemory> {
-    let is_check = matches!(invocation, Invocation::Check { .. });
-    notes_at(files, alloc, paths, is_check, wanted)
+    match invocation {
+        Invocation::Run { .. } | Invocation::Restart { .. } => fault_notes_at(files, alloc, paths),
+        _ => {
+            let is_check = matches!(invocation, Invocation::Check { .. });
+            notes_at(files, alloc, paths, is_check, wanted)
+        }
+    }
+}
+
+/// The notes of the first fault of the files at these paths, if they have one.
+fn fault_notes_at(files: &Files<'_>, alloc: Global, paths: &Paths) -> Result<Notes, NoMemory> {
+    let read = RereadFiles::new(files, alloc, paths)?;
+    let sources = read.sources();
+    match notes_of_fault(alloc, &sources)? {
+        Some(notes) => Ok(notes),
+        None => Ok(Notes::new(alloc)),
+    }
 }
 
 /// The notes of the files of a running relay, as `check` writes them, if this user may read them.

@@ -11,6 +11,10 @@ use std::{io, mem};
 /// How many notes an input has; the frames and rows beyond are counted.
 const MOST_NOTES: u64 = 100;
 
+/// What is read.
+const FORM: &str =
+    "cure: write pickle.dumps(rows, 2), where rows is [(name, (time, value)), ..] of texts and numbers";
+
 /// How many bytes the length before a pickle has.
 const LENGTH_BYTES: usize = 4;
 
@@ -59,6 +63,8 @@ struct FrameWatch {
     number: u64,
     /// How many frames and rows were bad.
     bad: u64,
+    /// Whether a frame could not be read.
+    is_unread: bool,
     /// Whether nothing more is examined: a frame was too long, there was no memory, or the input has ended.
     is_done: bool,
 }
@@ -73,6 +79,7 @@ impl FrameWatch {
             place: 0,
             number: 1,
             bad: 0,
+            is_unread: false,
             is_done: false,
         }
     }
@@ -110,6 +117,9 @@ impl FrameWatch {
         if more > 0 {
             notes.add(format_args!("{more} more bad frames and rows"));
         }
+        if self.is_unread {
+            notes.add(FORM);
+        }
     }
 
     /// Examines the whole frames that these bytes begin with, and keeps what follows them.
@@ -145,6 +155,11 @@ impl FrameWatch {
         ));
         match bytes {
             [0x80, ..] => notes.add("a pickle begins there, without the four bytes of its length"),
+            [_, _, 0..=15, 0, ..] => {
+                notes.add(
+                    "the length may begin with its least significant byte, and the most significant comes first",
+                )
+            }
             [b' '..=b'~', b' '..=b'~', b' '..=b'~', b' '..=b'~', ..] => {
                 notes.add("lines may begin there, which relayd pass reads without --pickle")
             }
@@ -161,6 +176,7 @@ impl FrameWatch {
             }
             Err(PickleFault::NoMemory) => {}
             Err(fault) => {
+                self.is_unread = true;
                 self.bad = self.bad.saturating_add(1);
                 if self.bad <= MOST_NOTES {
                     self.add_bad_frame(notes, bad_frame(self.alloc, pickle, fault));

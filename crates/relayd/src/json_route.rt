@@ -1,13 +1,14 @@
 //! `relayd route --json`: where a configuration sends metrics, as objects of JSON.
 
 use crate::files::sources_at;
+use crate::names_lines::WritesNames;
 use crate::open_files::Files;
 use command_line::Paths;
 use conf_text::{Dest, Settings};
 use line_text::{Name, NameFault, Point, Value};
 use log_format::{push_key, push_member, push_string};
-use relay_base::{DestId, NoMemory, strip_bytes};
-use relay_files::{Configuration, RelayFault, Status, flush, write_all};
+use relay_base::DestId;
+use relay_files::{Configuration, RelayFault, Status, write_all};
 use router::{Plan, Sent};
 use std::alloc::{AllocError, Global};
 use std::fmt::Write as _;
@@ -51,51 +52,6 @@ impl JsonRoutes {
         }
     }
 
-    /// Writes the object of a name, and a newline. It ends with `BadName` if the text is not a metric name.
-    pub fn write_name<W: Write>(&mut self, name: &[u8], output: &mut W) -> Result<(), RelayFault> {
-        let object = self.object_of(name)?;
-        write_all(output, object.as_str().as_bytes())?;
-        Ok(())
-    }
-
-    /// Writes the objects of the names of a text, one a line, and notes the lines that have a bad one.
-    pub fn write_names<W: Write, N: Write>(
-        &mut self,
-        text: &[u8],
-        output: &mut W,
-        notes: &mut N,
-    ) -> Result<(), RelayFault> {
-        let mut number: u64 = 0;
-        for line in text.split_inclusive(|byte| *byte == b'\n') {
-            number = number.saturating_add(1);
-            let name = strip_bytes(line.strip_suffix(b"\n").unwrap_or(line));
-            if !name.is_empty() {
-                self.write_line(number, name, output, notes)?;
-            }
-        }
-        flush(output)?;
-        Ok(())
-    }
-
-    /// Writes the object of the name that the line with this number has, or notes that it has a bad one.
-    fn write_line<W: Write, N: Write>(
-        &mut self,
-        number: u64,
-        name: &[u8],
-        output: &mut W,
-        notes: &mut N,
-    ) -> Result<(), RelayFault> {
-        match self.write_name(name, output) {
-            Err(RelayFault::BadName) => {
-                self.has_fault = true;
-                let note = note_of_bad_name(self.alloc, number)?;
-                write_all(notes, note.as_str().as_bytes())?;
-                Ok(())
-            }
-            written => written,
-        }
-    }
-
     /// The object of a name, with a newline.
     fn object_of(&mut self, name: &[u8]) -> Result<String, RelayFault> {
         let point = point_named(self.alloc, name)?;
@@ -115,9 +71,17 @@ impl JsonRoutes {
     }
 }
 
-/// The note that the line with this number has a bad name.
-fn note_of_bad_name(alloc: Global, number: u64) -> Result<String, NoMemory> {
-    Ok(format!(in alloc; "relayd: name: line {number}: BadName\n")?)
+impl WritesNames for JsonRoutes {
+    /// Writes the object of a name, and a newline. It ends with `BadName` if the text is not a metric name.
+    fn write_name<W: Write>(&mut self, name: &[u8], output: &mut W) -> Result<(), RelayFault> {
+        let object = self.object_of(name)?;
+        write_all(output, object.as_str().as_bytes())?;
+        Ok(())
+    }
+
+    fn note_bad(&mut self) {
+        self.has_fault = true;
+    }
 }
 
 /// A datapoint with a name. What becomes of it does not depend on the rest.

@@ -19,8 +19,10 @@ mod frame_notes;
 mod json_notes;
 mod json_report;
 mod json_route;
+mod live_route;
 mod log_output;
 mod memory_there;
+mod names_lines;
 mod note_output;
 mod open_files;
 mod passing;
@@ -41,9 +43,10 @@ mod watched_route;
 mod words;
 
 use admin_key::key_at;
-use command_line::{Invocation, OutputForm, Paths, VERSION};
+use command_line::{Explain, Invocation, OutputForm, Paths, VERSION};
 use file_limit::{ErrorRoom, LimitedOutput, file_limit, limited_output};
 use files::sources_at;
+use live_route::run_live_route;
 use log_output::log_output;
 use open_files::Files;
 use passing::run_pass;
@@ -128,6 +131,12 @@ where
             output,
             ..
         } => run_route_names(files, alloc, paths, names, *output),
+        Invocation::LiveRoute {
+            admin,
+            asked,
+            output,
+            ..
+        } => run_live_route(files, alloc, admin, asked, *output),
         Invocation::Replay {
             paths,
             script,
@@ -162,7 +171,7 @@ where
             admin_key,
             record,
             spool,
-            ..
+            explain,
         } => {
             let own = match own_folder(rt, alloc, spool) {
                 Ok(own) => own,
@@ -182,6 +191,10 @@ where
                 Ok(recorder) => recorder,
                 Err(status) => return Ok(status),
             };
+            if *explain != Explain::Nothing {
+                run_check(files, alloc, paths, OutputForm::Json)?;
+                explain::write_start_notes(files, alloc, paths);
+            }
             let ended = relay_run::run(
                 threads,
                 alloc,
@@ -201,12 +214,15 @@ where
         }
         Invocation::Report { admin, form } => Ok(admin::report(rt, alloc, admin, *form)),
         Invocation::Stop { admin, waits } => Ok(admin::stop(rt, alloc, admin, *waits)),
-        Invocation::Restart { paths, admin, .. } => {
-            check(
-                alloc,
-                &mut sources_at(files, alloc, paths)?,
-                &mut limited_output(rt),
-            )?;
+        Invocation::Restart {
+            paths,
+            admin,
+            explain,
+        } => {
+            run_check(files, alloc, paths, OutputForm::Text)?;
+            if *explain != Explain::Nothing {
+                explain::write_start_notes(files, alloc, paths);
+            }
             Ok(admin::stop(rt, alloc, admin, true))
         }
         Invocation::Reload { admin, explain } => Ok(admin::reload(rt, alloc, admin, *explain)),
@@ -237,7 +253,7 @@ fn relay_options(options: command_line::RunOptions) -> RunOptions {
     }
 }
 
-/// Checks the files at these paths. With notes as JSON, standard output has nothing else.
+/// Checks the files at these paths. With notes as JSON, and for a run, standard output has nothing else.
 fn run_check<'a>(
     files: &'a Files<'a>,
     alloc: Global,

@@ -14,7 +14,7 @@ use std::{fs, io};
 const OWNER_ALONE: u32 = 0o600;
 
 /// How many bytes a line on standard error has at most.
-const LONGEST_LINE: usize = 100;
+const LONGEST_LINE: usize = 4_300;
 
 /// The file that takes the record of a run.
 #[derive(Drop)]
@@ -41,8 +41,13 @@ pub fn recorder_of<'a>(
     let Ok(part) = format!(in alloc; "{path}.part") else {
         return Err(Status::NoMemory);
     };
-    if !can_write(rt, path.as_str(), part.as_str()) {
-        say(rt, "record: cannot write");
+    if is_no_file(rt, path.as_str()) {
+        say_no_file(rt, path.as_str());
+        drop(part);
+        return Err(Status::DeviceFault);
+    }
+    if let Err(error) = try_to_write(rt, part.as_str()) {
+        say_failed(rt, path.as_str(), &error);
         drop(part);
         return Err(Status::DeviceFault);
     }
@@ -60,8 +65,8 @@ impl Recorder for RecordFile<'_> {
         let rt = self.rt;
         match record_run(alloc, run) {
             Ok(script) => {
-                if !self.write(alloc, place, script.as_str()) {
-                    say(rt, "record: cannot write");
+                if let Err(error) = self.write(alloc, place, script.as_str()) {
+                    say_failed(rt, self.path, &error);
                     *self.status = Status::DeviceFault;
                 }
             }
@@ -76,28 +81,34 @@ impl Recorder for RecordFile<'_> {
 }
 
 impl RecordFile<'_> {
-    /// Writes a record to the file of a run. Returns whether it could.
-    fn write(&self, alloc: Global, place: RunPlace, text: &str) -> bool {
+    /// Writes a record to the file of a run.
+    fn write(&self, alloc: Global, place: RunPlace, text: &str) -> io::Result<()> {
         let part = self.part.as_str();
         match place {
-            RunPlace::Last => write_record(self.rt, self.path, part, text).is_ok(),
-            RunPlace::Followed { number } => match format!(in alloc; "{}.{number}", self.path) {
-                Ok(path) => write_record(self.rt, path.as_str(), part, text).is_ok(),
-                Err(_) => false,
-            },
+            RunPlace::Last => write_record(self.rt, self.path, part, text),
+            RunPlace::Followed { number } => {
+                let Ok(path) = format!(in alloc; "{}.{number}", self.path) else {
+                    return Err(io::Error::from(io::ErrorKind::OutOfMemory));
+                };
+                write_record(self.rt, path.as_str(), part, text)
+            }
         }
     }
 }
 
-/// Whether a record can be written to a path by the file beside it. That file is made, and removed again.
-fn can_write(rt: &HostRuntime, path: &str, part: &str) -> bool {
-    if let Ok(there) = fs::symlink_metadata(rt, path) {
-        if !there.is_file() && !there.is_symlink() {
-            return false;
-        }
+/// Whether there is something at a path that a record cannot take the place of: no regular file, and no link.
+fn is_no_file(rt: &HostRuntime, path: &str) -> bool {
+    match fs::symlink_metadata(rt, path) {
+        Ok(there) => !there.is_file() && !there.is_symlink(),
+        Err(_) => false,
     }
-    let is_made = make_part(rt, part).is_ok();
-    is_made && fs::remove_file(rt, part).is_ok()
+}
+
+/// Makes a file anew, and removes it again.
+fn try_to_write(rt: &HostRuntime, part: &str) -> io::Result<()> {
+    let made = make_part(rt, part)?;
+    drop(made);
+    fs::remove_file(rt, part)
 }
 
 /// Writes a record to the file beside its path, and gives it its name. If it cannot, an older record stays as it is.
@@ -134,10 +145,17 @@ fn make_part(rt: &HostRuntime, part: &str) -> io::Result<File> {
         .open(rt, part)
 }
 
-/// Writes a line on standard error, if it has room there.
-fn say(rt: &HostRuntime, text: &str) {
+/// Writes a line about a path where no regular file is on standard error, if it has room there.
+fn say_no_file(rt: &HostRuntime, path: &str) {
     if rt.error_has_room(file_limit(rt), LONGEST_LINE) {
-        let _ = eprintln!(rt; "relayd: {text}");
+        let _ = eprintln!(rt; "relayd: record: {path}: no regular file");
+    }
+}
+
+/// Writes a line about a path that cannot be written, and why, on standard error, if it has room there.
+fn say_failed(rt: &HostRuntime, path: &str, error: &io::Error) {
+    if rt.error_has_room(file_limit(rt), LONGEST_LINE) {
+        let _ = eprintln!(rt; "relayd: record: {path}: cannot write: {error}");
     }
 }
 

@@ -4,6 +4,7 @@ use crate::buffered_output;
 use crate::file_limit::limited_output;
 use crate::files::{file_at, sources_at};
 use crate::json_route::JsonRoutes;
+use crate::names_lines::{WritesNames, write_names};
 use crate::open_files::Files;
 use crate::strict::{StrictFiles, input_at};
 use command_line::{OutputForm, Paths, RouteOutput};
@@ -56,7 +57,7 @@ pub fn run_route_names<'a>(
         OutputForm::Json => {
             let mut routes = JsonRoutes::read(files, alloc, paths)?;
             let names = input_at(files, alloc, Role::Names, names)?;
-            routes.write_names(&names, &mut output, &mut notes)?;
+            write_names(alloc, &mut routes, &names, &mut output, &mut notes)?;
             Ok(routes.status(wanted.is_strict))
         }
         OutputForm::Text if wanted.is_strict => {

@@ -66,9 +66,9 @@ pub fn end_with_fault(
 }
 
 /// Why a folder cannot be used.
-#[derive(Clone, Copy)]
+#[derive(Drop)]
 enum FolderFault {
-    CannotWrite,
+    CannotWrite(io::Error),
     InUse,
     NoFile,
 }
@@ -107,8 +107,8 @@ pub fn own_folder(
             say_of(rt, path, "another relay uses it");
             Err(Status::DeviceFault)
         }
-        Err(FolderFault::CannotWrite) => {
-            say_of(rt, path, "cannot write");
+        Err(FolderFault::CannotWrite(error)) => {
+            say_failed(rt, path, &error);
             Err(Status::DeviceFault)
         }
         Err(FolderFault::NoFile) => {
@@ -124,14 +124,15 @@ fn locked(rt: &HostRuntime, path: &str) -> Result<File, FolderFault> {
         Ok(there) if !there.is_file() => return Err(FolderFault::NoFile),
         _ => {}
     }
-    let Ok(file) = rt.open_records(path) else {
-        return Err(FolderFault::CannotWrite);
+    let file = match rt.open_records(path) {
+        Ok(file) => file,
+        Err(error) => return Err(FolderFault::CannotWrite(error)),
     };
     for _ in 0..TRIES {
         match file.try_lock() {
             Ok(()) => return Ok(file),
             Err(TryLockError::WouldBlock) => thread::sleep(rt, Duration::from_millis(PAUSE_MS)),
-            Err(TryLockError::Error(_)) => return Err(FolderFault::CannotWrite),
+            Err(TryLockError::Error(error)) => return Err(FolderFault::CannotWrite(error)),
         }
     }
     Err(FolderFault::InUse)
@@ -143,15 +144,15 @@ fn try_to_write(rt: &HostRuntime, path: &str, trial: &str) -> Result<Option<u32>
     let mut owner = None;
     let _ = fs::remove_file(rt, trial);
     let written = write_trial(rt, trial, &mut owner);
-    let is_removed = fs::remove_file(rt, trial).is_ok();
-    match written {
-        Ok(()) if is_removed => Ok(owner),
+    let removed = fs::remove_file(rt, trial);
+    match written.and(removed) {
+        Ok(()) => Ok(owner),
         Err(error) if is_lack_of_room(&error) => {
             say_of(rt, path, "no room");
             Ok(owner)
         }
-        _ => {
-            say_of(rt, path, "cannot write");
+        Err(error) => {
+            say_failed(rt, path, &error);
             Err(Status::DeviceFault)
         }
     }
@@ -175,6 +176,13 @@ fn is_lack_of_room(error: &io::Error) -> bool {
 fn say_of(rt: &HostRuntime, path: &str, text: &str) {
     if rt.error_has_room(file_limit(rt), LONGEST_LINE) {
         let _ = eprintln!(rt; "relayd: spool: {path}: {text}");
+    }
+}
+
+/// Writes a line about a path that cannot be written, and why, on standard error, if it has room there.
+fn say_failed(rt: &HostRuntime, path: &str, error: &io::Error) {
+    if rt.error_has_room(file_limit(rt), LONGEST_LINE) {
+        let _ = eprintln!(rt; "relayd: spool: {path}: cannot write: {error}");
     }
 }
 

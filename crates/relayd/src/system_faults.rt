@@ -36,6 +36,9 @@ pub fn write_fault_notes(
         (RelayFault::Script { line }, Invocation::Replay { script, .. }) => {
             let _ = write(files.runtime(), script_notes(files, alloc, script, line));
         }
+        (RelayFault::NotText { role: Role::Script }, Invocation::Replay { script, .. }) => {
+            let _ = write(files.runtime(), script_notes(files, alloc, script, 0));
+        }
         (RelayFault::Listen { .. }, Invocation::Run { paths, options, .. }) => {
             let _ = write(files.runtime(), port_notes(files, alloc, paths, *options));
         }

@@ -89,6 +89,9 @@ IsLook millis end files before after waits =
     ((after ≡ nothing_seen millis) × (waits ≡ Done))
     ⊎ ((left : ℕ) × (after ≡ progress_after left millis before) × (waits ≡ waits_for left millis end files after))
 
+abbrev pub IsWaitedFor : (millis end : ℕ) → (files : Bool) → (before after : DrainProgress) → Type 0
+IsWaitedFor millis end files before after = IsLook millis end files before after Yes
+
 abbrev pub IsNotWaitedFor : (millis end : ℕ) → (files : Bool) → (before after : DrainProgress) → Type 0
 IsNotWaitedFor millis end files before after =
     (waits : Waits) × IsLook millis end files before after waits × (waits ≢ Yes)

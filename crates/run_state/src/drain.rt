@@ -1,7 +1,7 @@
 //! For whom a drain waits.
 
-ghost use Rattle.std.specs.Prelude.{◌≡◌, ◌≢◌, ℕ, ◌+◌, ◌*◌, ◌-◌, ◌^◌, ◌≤◌, ◌<◌, min, true, length};
-ghost use Rattle.run_state.specs.Drain.{IsLook, IsNotWaitedFor, seen_of};
+ghost use Rattle.std.specs.Prelude.{◌≡◌, ◌≢◌, ℕ, ◌+◌, ◌*◌, ◌-◌, ◌^◌, ◌≤◌, ◌<◌, min, true, false, length, replicate};
+ghost use Rattle.run_state.specs.Drain.{IsLook, IsWaitedFor, IsNotWaitedFor, nothing_seen, seen_of};
 
 use crate::signals::Signals;
 use crate::unsent::Unsent;
@@ -63,6 +63,7 @@ impl Drain {
     pub fn new(millis: u64, seconds: u64, has_files: bool) -> Drain
         ensures end { result.end ≡ min (millis + min (seconds * 1000) (2 ^ 64 - 1)) (2 ^ 64 - 1) }
         ensures files { result.has_files ≡ has_files }
+        ensures progress { result.progress ≡ replicate MOST_DESTINATIONS (nothing_seen millis) }
     {
         Drain {
             end: millis.saturating_add(seconds.saturating_mul(1_000)),
@@ -85,6 +86,11 @@ impl Drain {
         ensures not_before { result ≡ true → millis < self.old.end
             → (place : ℕ) → place < min (length unsent.now.noted.dests.now) MOST_DESTINATIONS
             → IsNotWaitedFor millis self.old.end self.old.has_files
+            (seen_of self.old.progress place) (seen_of self.new.progress place) }
+        // It goes on only if it waits for one.
+        ensures goes_on { result ≡ false → (place : ℕ)
+            × (place < min (length unsent.now.noted.dests.now) MOST_DESTINATIONS)
+            × IsWaitedFor millis self.old.end self.old.has_files
             (seen_of self.old.progress place) (seen_of self.new.progress place) }
         ensures end { self.new.end ≡ self.old.end }
         ensures files { self.new.has_files ≡ self.old.has_files }

@@ -8,7 +8,9 @@
 
 mod counters;
 mod drain;
+mod end_orders;
 mod end_state;
+mod gone_dest;
 mod gone_drain;
 mod gone_notes;
 mod rest_notes;
@@ -20,7 +22,9 @@ mod thread_work;
 mod unsent;
 
 pub use drain::Drain;
+pub use end_orders::EndOrders;
 pub use end_state::EndState;
+pub use gone_dest::{GoneDest, GoneSources};
 pub use gone_drain::GoneDrain;
 pub use gone_notes::{GoneEnd, GoneNotes};
 pub use rest_notes::RestNotes;

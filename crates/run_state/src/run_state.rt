@@ -11,7 +11,7 @@ use conf_text::Dest;
 use dest_queue::{Counts, EarlierCounts};
 use log_lines::{DestNotes, ReceiverNotes};
 use relay_base::NoMemory;
-use spool::SpoolNotes;
+use spool::{SpoolNotes, Waiting};
 use std::alloc::Global;
 use std::sync::Arc;
 use std::sync::atomic::AtomicU64;
@@ -61,15 +61,33 @@ impl<'x> DestSources<'x> {
         earlier.with_rest(rest.queued().saturating_add(in_file), counts)
     }
 
+    /// What waits in the file of a destination.
+    pub fn waiting_at(&self, place: usize) -> Waiting {
+        match self.file_at(place) {
+            Some(notes) => notes.waiting(),
+            None => Waiting::nothing(),
+        }
+    }
+
+    /// How many datapoints of the file of a destination connections took in this run, those that went out again too.
+    pub fn passed_at(&self, place: usize) -> u64 {
+        match self.file_at(place) {
+            Some(notes) => notes.passed(),
+            None => 0,
+        }
+    }
+
     /// Whether a file of a destination is not sent yet.
     fn is_behind(&self, place: usize) -> bool {
-        let Some(end) = self.end else {
-            return false;
-        };
-        match end.spool_notes().get(place) {
+        match self.file_at(place) {
             Some(notes) => notes.is_behind(),
             None => false,
         }
+    }
+
+    /// What is noted of the file of a destination, if there is a spool.
+    fn file_at(&self, place: usize) -> Option<&'x SpoolNotes> {
+        self.end?.spool_notes().get(place)
     }
 }
 

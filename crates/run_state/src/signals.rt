@@ -1,5 +1,7 @@
 //! Signals between the threads of a relay and the first one.
 
+ghost use Rattle.std.specs.Prelude.{◌≡◌, ◌^◌, nat_lt, if◌then◌else◌};
+
 use mio_loops::ReadinessFault;
 use std::rt::Clock;
 use std::sync::Wait;
@@ -203,7 +205,9 @@ impl Signals {
 }
 
 /// The bit of a receiver or a sender, of which there are 8 at most; 0 for another number.
-pub fn bit(number: usize) -> u64 {
+pub fn bit(number: usize) -> u64
+    ensures { result ≡ (if nat_lt number 8 then 2 ^ number else 0) }
+{
     match number {
         0 => 1,
         1 => 2,

@@ -96,7 +96,9 @@ struct ToConnector<'c, N> {
 }
 
 impl<N: Connect> LeftTaker<N::Sink> for ToConnector<'_, N> {
-    fn take_left(&mut self, dest: DestId, left: LeftWriter<N::Sink>) {
+    fn take_left(&mut self, dest: DestId, left: LeftWriter<N::Sink>)
+        ensures { Unit {0} }
+    {
         self.connector.hand_over(dest, left);
     }
 }

@@ -11,6 +11,7 @@ use crate::open_folder::{OpenFault, OpenFolder};
 use crate::spool_disk::SpoolDisk;
 use crate::spool_notes::SpoolNotes;
 use crate::turn::Turn;
+use crate::waiting::Waiting;
 use conf_text::Dest;
 use relay_base::NoMemory;
 use std::alloc::{AllocError, Global};
@@ -139,6 +140,9 @@ impl DestSpool {
         if length > held.end() {
             self.cut(disk, folder, held, length)?;
         }
+        if !held.is_sent() {
+            folder.tell_waiting(held, &self.names, disk.seconds())?;
+        }
         Ok(!held.is_sent() || held.has_begun_line())
     }
 
@@ -251,6 +255,22 @@ impl DestSpool {
         }
     }
 
+    /// Counts what waits in the earlier file, as far as that is not counted, and notes it.
+    pub fn note_waiting(&mut self, piece: &mut [u8], notes: &SpoolNotes) {
+        if let Some(held) = &mut self.held {
+            held.count_lines(piece);
+        }
+        notes.note_waiting(self.waiting());
+    }
+
+    /// What waits in the earlier file, as far as it is counted.
+    pub fn waiting(&self) -> Waiting {
+        match &self.held {
+            Some(held) => held.waiting(),
+            None => Waiting::nothing(),
+        }
+    }
+
     /// The connection that the file goes out on is lost, if there is one: all that it took goes out again.
     fn lose<W: Write + Drop>(
         &mut self,
@@ -306,7 +326,7 @@ impl DestSpool {
     }
 
     /// The store has what its connection took of the earlier file. The file goes if that is all.
-    pub fn end_part<D: SpoolDisk>(&mut self, disk: &D) {
+    pub fn end_part<D: SpoolDisk>(&mut self, disk: &D, notes: Option<&SpoolNotes>) {
         let Some(held) = &mut self.held else {
             return;
         };
@@ -314,6 +334,14 @@ impl DestSpool {
         if held.is_sent() {
             self.end_held(disk);
             self.go_on_with_new(disk);
+        }
+        self.note_rest(notes);
+    }
+
+    /// Notes what waits in the earlier file.
+    fn note_rest(&self, notes: Option<&SpoolNotes>) {
+        if let Some(notes) = notes {
+            notes.note_waiting(self.waiting());
         }
     }
 
@@ -325,7 +353,7 @@ impl DestSpool {
         };
         held.note_no_end();
         note_news(notes, self.names.no_end_news());
-        self.end_part(disk);
+        self.end_part(disk, notes);
     }
 
     /// Sends some of the earlier file to its connection, which is given out once it took a part ([`DestSpool::end_part`]). A file
@@ -344,7 +372,7 @@ impl DestSpool {
             return self.leave_taken_away(connection, notes);
         }
         let turn = match &mut self.held {
-            Some(held) => held.send(connection, piece),
+            Some(held) => held.send(connection, piece, notes),
             None => Turn::Kept,
         };
         self.note_unread(&turn, notes);
@@ -377,6 +405,7 @@ impl DestSpool {
         let sink = held.end_connection(connection);
         held.free();
         drop(held);
+        self.note_rest(notes);
         match sink {
             Some(sink) => Turn::GivenUp { sink, code: 0 },
             None => Turn::Lost,
@@ -435,6 +464,7 @@ impl DestSpool {
                 if length > end {
                     held.note_begun_line();
                 }
+                held.count_lines(&mut piece);
                 Some(held)
             }
             found => {

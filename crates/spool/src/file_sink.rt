@@ -1,16 +1,15 @@
 //! The last connection of a destination: its file.
 
-ghost use Rattle.std.specs.Prelude.{◌≡◌, ◌==◌, count_by, take, MatchResult};
+ghost use Rattle.std.specs.Prelude.{◌≡◌, take, MatchResult};
 ghost use Rattle.std.specs.Io.{WritesAtMost};
 ghost use Rattle.std.specs.Io.KnownBytes.{WriteAppends};
-ghost use Rattle.relay_base.specs.Ascii.{newline};
 ghost use Rattle.spool.specs.Held.{MovesPast};
 
 use crate::dest_spool::DestSpool;
 use crate::limited_file::LimitedFile;
+use crate::line_count::lines_in;
 use crate::spool_disk::SpoolDisk;
 use crate::spool_notes::SpoolNotes;
-use memchr::memchr_iter;
 use std::fs::File;
 use std::io;
 use std::io::{ErrorKind, Write};
@@ -190,11 +189,4 @@ fn end_file<D: SpoolDisk>(
         }
         drop(error);
     }
-}
-
-/// How many bytes 10 a text has: each ends a datapoint.
-fn lines_in(bytes: &[u8]) -> u64
-    ensures { result ≡ count_by (λ b. b == newline) bytes.now }
-{
-    memchr_iter(b'\n', bytes).count() as u64
 }

@@ -1,12 +1,16 @@
 //! A file that holds lines which are to be sent.
 
 use crate::file_connection::FileConnection;
+use crate::line_count::{LineCount, lines_in};
 use crate::part::Part;
 use crate::sent_table::SentPlace;
+use crate::spool_notes::SpoolNotes;
 use crate::turn::Turn;
+use crate::waiting::Waiting;
 use backlog::Cursor;
 use std::fs::File;
 use std::io::Write;
+use std::os::unix::fs::MetadataExt;
 
 /// How far a file is sent, where that is noted, if it is, and which part of it goes out now.
 #[derive(Drop)]
@@ -14,6 +18,7 @@ pub(crate) struct SentPart {
     cursor: Cursor,
     place: Option<SentPlace>,
     part: Part,
+    lines: LineCount,
     // Whether the store does not end connections, so that what the system took counts as sent.
     has_no_end: bool,
 }
@@ -25,6 +30,7 @@ impl SentPart {
             cursor: Cursor::new(),
             place: None,
             part: Part::at(0),
+            lines: LineCount::at(0),
             has_no_end: false,
         }
     }
@@ -36,6 +42,8 @@ pub(crate) struct HeldFile {
     file: File,
     end: u64,
     sent: SentPart,
+    // The second since 1970 at which it was last written; 0 if the system does not say.
+    written_at: u64,
     // Whether it has something behind its whole lines, and so is put aside and not removed.
     has_begun_line: bool,
     // Whether it could not be read, so that nothing more of it is sent in this run.
@@ -45,10 +53,12 @@ pub(crate) struct HeldFile {
 impl HeldFile {
     /// A file whose whole lines end there, of which this part is sent.
     pub(crate) fn new(file: File, end: u64, sent: SentPart) -> HeldFile {
+        let written_at = written_at(&file);
         HeldFile {
             file,
             end,
             sent,
+            written_at,
             has_begun_line: false,
             has_failed: false,
         }
@@ -58,6 +68,7 @@ impl HeldFile {
     pub(crate) fn go_on_at(&mut self, place: u64) {
         self.sent.cursor = Cursor::at(place);
         self.sent.part = Part::at(place);
+        self.sent.lines = LineCount::at(place);
     }
 
     /// From now on it is noted there how far it is sent.
@@ -87,6 +98,21 @@ impl HeldFile {
     /// Whether all its lines are sent.
     pub(crate) fn is_sent(&self) -> bool {
         self.sent.cursor.start() >= self.end
+    }
+
+    /// Counts the lines that wait, as far as they are not counted yet.
+    pub(crate) fn count_lines(&mut self, piece: &mut [u8]) {
+        let start = self.part_start();
+        self.sent.lines.count_to(&self.file, start, self.end, piece);
+    }
+
+    /// What waits in it.
+    pub(crate) fn waiting(&self) -> Waiting {
+        Waiting {
+            datapoints: self.sent.lines.lines(),
+            bytes: self.end.saturating_sub(self.part_start()),
+            written_at: self.written_at,
+        }
     }
 
     pub(crate) fn has_begun_line(&self) -> bool {
@@ -132,12 +158,14 @@ impl HeldFile {
     pub(crate) fn end_part(&mut self) {
         self.sent.cursor.reconnect();
         self.sent.part = Part::at(self.start());
+        self.sent.lines.end_part();
     }
 
     /// Its part goes out again, which is noted.
     pub(crate) fn send_again(&mut self) {
         let start = self.part_start();
         self.sent.cursor = Cursor::at(start);
+        self.sent.lines.send_again();
         if let Some(place) = &mut self.sent.place {
             place.note(&self.file, start);
         }
@@ -158,16 +186,29 @@ impl HeldFile {
         &mut self,
         connection: &mut FileConnection<W>,
         piece: &mut [u8],
+        notes: Option<&SpoolNotes>,
     ) -> Turn<W> {
         let end = self.sent.part.end_in(&self.file, self.end, piece);
         if let Some(place) = &self.sent.place {
             place.begin_piece();
         }
+        let before = self.next();
         let turn = connection.send(&self.file, end, &mut self.sent.cursor, piece);
+        let taken = (self.next().saturating_sub(before) as usize).min(piece.len());
+        self.pass_lines(&piece[..taken], notes);
         if let Some(place) = &mut self.sent.place {
             place.note(&self.file, self.sent.cursor.start());
         }
         turn
+    }
+
+    /// The connection took these bytes.
+    fn pass_lines(&mut self, bytes: &[u8], notes: Option<&SpoolNotes>) {
+        let lines = lines_in(bytes);
+        self.sent.lines.take(lines);
+        if let Some(notes) = notes {
+            notes.note_passed(lines);
+        }
     }
 
     /// Nothing more of it is sent. Returns the connection, if that took whole lines alone; otherwise it is gone.
@@ -197,5 +238,13 @@ impl HeldFile {
             ..
         } = self;
         (file, end, sent)
+    }
+}
+
+/// The second since 1970 at which a file was last written; 0 if the system does not say.
+fn written_at(file: &File) -> u64 {
+    match file.metadata() {
+        Ok(metadata) => u64::try_from(metadata.mtime()).unwrap_or(0),
+        Err(_) => 0,
     }
 }

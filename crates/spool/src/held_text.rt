@@ -54,7 +54,7 @@ fn read_whole<F: HeldText>(file: &F, place: u64, piece: &mut [u8]) -> io::Result
 }
 
 /// Reads some bytes from a place on; none if it was interrupted. Refuses if none are there.
-fn read_some<F: HeldText>(file: &F, place: u64, piece: &mut [u8]) -> io::Result<usize>
+pub(crate) fn read_some<F: HeldText>(file: &F, place: u64, piece: &mut [u8]) -> io::Result<usize>
     ensures count { IfOk result (λ count. count ≤ length piece.new) }
     ensures bytes { IfOk result (λ count. IfSome (F.text file.now)
         (λ held. take count piece.new ≡ take count (drop place held))) }

@@ -9,6 +9,7 @@
 //! it.
 #![tactic(auto)]
 
+mod clock;
 mod copy;
 mod dest_spool;
 mod file_connection;
@@ -18,6 +19,7 @@ mod found_file;
 mod held_file;
 mod held_text;
 mod limited_file;
+mod line_count;
 mod open_folder;
 mod part;
 mod pieces;
@@ -26,7 +28,9 @@ mod spool_disk;
 mod spool_files;
 mod spool_notes;
 mod turn;
+mod waiting;
 
+pub use clock::clock_seconds;
 pub use dest_spool::DestSpool;
 pub use file_connection::FileConnection;
 pub use file_names::{FileNames, LOCK, TRIAL, fits_name};
@@ -38,3 +42,4 @@ pub use spool_disk::SpoolDisk;
 pub use spool_files::{SpoolFiles, is_of_no_destination, open_all, open_others};
 pub use spool_notes::{MOST_NEWS, SpoolFailure, SpoolNotes};
 pub use turn::Turn;
+pub use waiting::Waiting;

@@ -169,6 +169,23 @@ impl<'a> OpenFolder<'a> {
         }
     }
 
+    /// Counts what waits in a file at this second since 1970; the news say it.
+    pub(crate) fn tell_waiting(
+        &mut self,
+        held: &mut HeldFile,
+        names: &FileNames,
+        clock: u64,
+    ) -> Result<(), AllocError> {
+        held.count_lines(&mut self.piece);
+        let (dest, waiting) = (names.name(), held.waiting());
+        let (datapoints, bytes) = (waiting.datapoints, waiting.bytes);
+        let age = waiting.age(clock);
+        write!(
+            self.news,
+            "destination {dest} spool waits, {datapoints} datapoints, {bytes} bytes, {age} seconds old\n"
+        )
+    }
+
     /// The news of what a file had behind its whole lines.
     pub(crate) fn tell_begun_line(
         &mut self,

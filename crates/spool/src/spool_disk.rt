@@ -1,5 +1,6 @@
 //! What spooling needs of the disk.
 
+use crate::clock::clock_seconds;
 use relay_base::add;
 use std::alloc::Global;
 use std::fs::{File, Metadata, OpenOptions};
@@ -33,6 +34,9 @@ pub trait SpoolDisk {
 
     /// Waits until the names of a folder are on the disk.
     fn sync_folder(&self, path: &str) -> io::Result<()>;
+
+    /// The time now, in seconds since 1970; 0 if the system does not say.
+    fn seconds(&self) -> u64;
 
     /// The names in a folder.
     fn names_in(&self, alloc: Global, path: &str) -> io::Result<Vec<String>>;
@@ -76,6 +80,10 @@ impl SpoolDisk for HostRuntime {
 
     fn sync_folder(&self, path: &str) -> io::Result<()> {
         File::open(self, path)?.sync_all()
+    }
+
+    fn seconds(&self) -> u64 {
+        clock_seconds(self)
     }
 
     fn names_in(&self, alloc: Global, path: &str) -> io::Result<Vec<String>> {

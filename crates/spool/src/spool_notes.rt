@@ -1,5 +1,6 @@
 //! What a sender notes of a destination's file.
 
+use crate::waiting::Waiting;
 use std::io;
 use std::io::ErrorKind;
 use std::sync::OnceLock;
@@ -27,6 +28,11 @@ pub struct SpoolNotes {
     // What is to be said of the earlier file, and how much of that was taken.
     news: [OnceLock<String>; MOST_NEWS],
     news_taken: AtomicUsize,
+    // What waits in the earlier file, when that was last written, and how many datapoints of it connections took.
+    waiting_datapoints: AtomicU64,
+    waiting_bytes: AtomicU64,
+    written_at: AtomicU64,
+    passed: AtomicU64,
 }
 
 /// Why a new file took no more.
@@ -62,6 +68,10 @@ impl SpoolNotes {
                 OnceLock::new(),
             ],
             news_taken: AtomicUsize::new(0),
+            waiting_datapoints: AtomicU64::new(0),
+            waiting_bytes: AtomicU64::new(0),
+            written_at: AtomicU64::new(0),
+            passed: AtomicU64::new(0),
         }
     }
 
@@ -150,6 +160,33 @@ impl SpoolNotes {
     /// The system's error by which the new file took no more; 0 if it had none.
     pub fn error_code(&self) -> i32 {
         self.error.load(Ordering::SeqCst)
+    }
+
+    /// This waits in the earlier file.
+    pub fn note_waiting(&self, waiting: Waiting) {
+        self.waiting_datapoints
+            .store(waiting.datapoints, Ordering::SeqCst);
+        self.waiting_bytes.store(waiting.bytes, Ordering::SeqCst);
+        self.written_at.store(waiting.written_at, Ordering::SeqCst);
+    }
+
+    /// What waits in the earlier file; each number by itself, since the sender may note others at the same time.
+    pub fn waiting(&self) -> Waiting {
+        Waiting {
+            datapoints: self.waiting_datapoints.load(Ordering::SeqCst),
+            bytes: self.waiting_bytes.load(Ordering::SeqCst),
+            written_at: self.written_at.load(Ordering::SeqCst),
+        }
+    }
+
+    /// A connection took so many datapoints of the earlier file.
+    pub(crate) fn note_passed(&self, datapoints: u64) {
+        let _passed = self.passed.fetch_add(datapoints, Ordering::SeqCst);
+    }
+
+    /// How many datapoints of the earlier file connections took in this run, those that went out again too.
+    pub fn passed(&self) -> u64 {
+        self.passed.load(Ordering::SeqCst)
     }
 
     /// These news are to be said of the earlier file. Only the first ones are.

@@ -1,6 +1,6 @@
 -- What the status says first: the worst that is true, and of which destination or receiver: a loss of the one that loses
 -- most, all else of the first.
-use Rattle.std.specs.Prelude.{ℕ, ◌≤◌, ◌<◌, ◌/◌, nat_lt, nat_le, Bool, true, false, not, ◌&&◌, ◌||◌, List, ◌++◌, length, Option, None, Some, codes, decimal, if◌then◌else◌}
+use Rattle.std.specs.Prelude.{ℕ, ◌/◌, nat_lt, nat_le, Bool, true, false, not, ◌&&◌, ◌||◌, List, ◌++◌, length, Option, None, Some, codes, decimal, if◌then◌else◌}
 use Rattle.std.specs.List.{list_all, position, count_by}
 use Rattle.log_lines.specs.declared.receiver_notes.ReceiverState.{ReceiverState}
 use Rattle.log_lines.specs.declared.receiver_notes.ReceiverState.TheVariants as state
@@ -131,3 +131,31 @@ opening dests h =
     if is_of_away h
     then decimal (count_by is_away dests) ++ codes " of " ++ decimal (length dests) ++ opening_words h
     else opening_words h
+
+-- its colour: red where data is lost or soon will be, green where all is well, and yellow otherwise
+abbrev pub class_of : Headline → List ℕ
+class_of it.Stopping = codes "warn"
+class_of (it.Losing place) = codes "ill"
+class_of (it.Deaf place) = codes "ill"
+class_of (it.Filling place) = codes "ill"
+class_of (it.Stuck place) = codes "ill"
+class_of (it.Away place) = codes "warn"
+class_of (it.Flapping place) = codes "warn"
+class_of (it.Bad place) = codes "warn"
+class_of it.Silent = codes "warn"
+class_of it.Well = codes "good"
+
+-- how the title of the page begins, and how its heading does
+abbrev pub title_start : Snapshot → List ℕ
+title_start s = codes "<title>" ++ opening s.dests.items (headline s)
+
+-- the tag of a heading of a class
+abbrev pub tag_of : List ℕ → List ℕ
+tag_of class = codes "<h1 class=\"" ++ class ++ codes "\">"
+
+-- the first words of a headline, in its colour
+abbrev pub words_in_colour : List DestSnapshot → Headline → List ℕ
+words_in_colour dests h = tag_of (class_of h) ++ opening dests h
+
+abbrev pub heading_start : Snapshot → List ℕ
+heading_start s = words_in_colour s.dests.items (headline s)

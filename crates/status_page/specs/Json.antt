@@ -9,15 +9,19 @@ use Rattle.log_lines.specs.declared.receiver_counts.ReceiverCounts.{ReceiverCoun
 use Rattle.log_lines.specs.declared.receiver_notes.ReceiverState.{ReceiverState}
 use Rattle.log_lines.specs.declared.receiver_notes.ReceiverState.TheVariants as state
 use Rattle.log_lines.specs.declared.losses.LossCounts.{LossCounts}
+use Rattle.log_lines.specs.declared.producers.ProducerCounts.{ProducerCounts}
 use Rattle.status_page.specs.declared.headline.Headline.{Headline}
 use Rattle.status_page.specs.declared.snapshot.ConnectionCounts.{ConnectionCounts}
 use Rattle.status_page.specs.declared.snapshot.DestSnapshot.{DestSnapshot}
+use Rattle.status_page.specs.declared.snapshot.OtherProducers.{OtherProducers}
+use Rattle.status_page.specs.declared.snapshot.ProducerSnapshot.{ProducerSnapshot}
 use Rattle.status_page.specs.declared.snapshot.Rates.{Rates}
 use Rattle.status_page.specs.declared.snapshot.ReceiverSnapshot.{ReceiverSnapshot}
 use Rattle.status_page.specs.declared.snapshot.Sample.{Sample}
 use Rattle.status_page.specs.declared.snapshot.Snapshot.{Snapshot}
+use Rattle.status_page.specs.declared.snapshot.SpoolSnapshot.{SpoolSnapshot}
 use Rattle.status_page.specs.Headline.{headline, state_name}
-use Rattle.status_page.specs.Plain.{plain_text}
+use Rattle.status_page.specs.Plain.{plain_text, plain_address}
 
 -- a member whose value is a number, behind others
 unfoldable pub member : (key : List ℕ) → ℕ → List ℕ
@@ -89,11 +93,19 @@ progress_json d =
     ++ (member (codes "stalled_seconds") d.stalled
     ++ (member (codes "oldest_queued_milliseconds") d.oldest))))
 
+-- what waits in its file, and how fast that goes out
+unfoldable pub spool_json : SpoolSnapshot → List ℕ
+spool_json s =
+    member (codes "spool_datapoints") s.datapoints
+    ++ (member (codes "spool_bytes") s.bytes
+    ++ (member (codes "spool_age_seconds") s.age
+    ++ (member (codes "spool_datapoints_per_second") s.rate)))
+
 -- a destination
 unfoldable pub dest_json : DestSnapshot → List ℕ
 dest_json d =
     dest_name d ++ (dest_numbers d ++ (last_error_json d.last_error
-    ++ (connection_counts_json d.connections ++ (progress_json d ++ codes "}"))))
+    ++ (connection_counts_json d.connections ++ (progress_json d ++ (spool_json d.spool ++ codes "}")))))
 
 unfoldable pub receiver_name : ReceiverSnapshot → List ℕ
 receiver_name r = codes "{\"receiver\":\"" ++ (plain_text (string_bytes r.name) ++ codes "\"")
@@ -145,6 +157,24 @@ receiver_json r =
     receiver_name r ++ (state_json r.state ++ (received_json r.counts
     ++ (losses_json r.losses ++ (receiver_rates_json r ++ codes "}"))))
 
+unfoldable pub producer_address : List ℕ → List ℕ
+producer_address address = codes "{\"address\":\"" ++ (address ++ codes "\"")
+
+-- what came from producers in each second
+unfoldable pub producer_rates_json : ProducerCounts → List ℕ
+producer_rates_json c =
+    member (codes "datapoints_per_second") c.datapoints
+    ++ (member (codes "bytes_per_second") c.bytes
+    ++ (member (codes "bad_per_second") c.bad))
+
+-- a producer
+unfoldable pub producer_json : ProducerSnapshot → List ℕ
+producer_json p =
+    producer_address (plain_address (string_bytes p.address))
+    ++ (producer_rates_json p.rates
+    ++ (member (codes "connections") p.connections
+    ++ (member (codes "connected_seconds") p.age ++ codes "}")))
+
 unfoldable pub sample_json : Sample → List ℕ
 sample_json s =
     codes "{\"received\":" ++ decimal s.received ++ member (codes "written") s.written
@@ -187,6 +217,17 @@ dest_list dests = codes ",\"destinations\":[" ++ (listed dest_json dests ++ code
 unfoldable pub receiver_list : List ReceiverSnapshot → List ℕ
 receiver_list receivers = codes ",\"receivers\":[" ++ (listed receiver_json receivers ++ codes "]")
 
+unfoldable pub producer_list : List ProducerSnapshot → List ℕ
+producer_list producers = codes ",\"producers\":[" ++ (listed producer_json producers ++ codes "]")
+
+unfoldable pub other_addresses : ℕ → List ℕ
+other_addresses n = codes ",\"other_producers\":{\"addresses\":" ++ decimal n
+
+-- the producers that are not listed
+unfoldable pub other_producers_json : OtherProducers → List ℕ
+other_producers_json others =
+    other_addresses others.addresses ++ (producer_rates_json others.rates ++ codes "}")
+
 unfoldable pub sample_list : List Sample → List ℕ
 sample_list samples = codes ",\"samples\":[" ++ (listed sample_json samples ++ codes "]")
 
@@ -195,4 +236,5 @@ unfoldable pub status_json : Snapshot → List ℕ
 status_json s =
     head_json s ++ (dest_list s.dests.items ++ (receiver_list s.receivers.items
     ++ (member (codes "sample_seconds") s.sample_seconds ++ (sample_list s.samples.items
-    ++ (configuration_json (plain_text (string_bytes s.configuration)) ++ codes "}\n")))))
+    ++ (configuration_json (plain_text (string_bytes s.configuration))
+    ++ (producer_list s.producers.items ++ (other_producers_json s.other_producers ++ codes "}\n")))))))

@@ -47,6 +47,10 @@ dest_value dest.Taken d = d.counts.taken
 dest_value dest.WrittenAt d = d.written_at
 dest_value dest.Writes d = d.writes.writes
 dest_value dest.WrittenBytes d = d.writes.bytes
+dest_value dest.SpoolDatapoints d = d.spool.datapoints
+dest_value dest.SpoolBytes d = d.spool.bytes
+dest_value dest.SpoolAge d = d.spool.age
+dest_value dest.SpoolRate d = d.spool.rate
 dest_value dest.Since d = d.since
 
 -- the power of ten of its numbers: thousandths of a second, or none
@@ -67,6 +71,10 @@ dest_scale dest.Taken = codes ""
 dest_scale dest.WrittenAt = codes ""
 dest_scale dest.Writes = codes ""
 dest_scale dest.WrittenBytes = codes ""
+dest_scale dest.SpoolDatapoints = codes ""
+dest_scale dest.SpoolBytes = codes ""
+dest_scale dest.SpoolAge = codes ""
+dest_scale dest.SpoolRate = codes ""
 dest_scale dest.Since = codes ""
 
 -- a number at the end of a line, with a power of ten or none
@@ -171,6 +179,14 @@ write_metrics dests =
     ++ (dest_family (codes "relayd_destination_writes_total") (codes "The writes that its connections took: a batch, or a part of one.") (codes "counter") dest.Writes dests
     ++ (dest_family (codes "relayd_destination_written_bytes_total") (codes "The bytes that its connections took.") (codes "counter") dest.WrittenBytes dests))
 
+-- what waits in the file of each destination, and how fast that goes out
+unfoldable pub spool_metrics : List DestSnapshot → List ℕ
+spool_metrics dests =
+    dest_family (codes "relayd_destination_spool_datapoints") (codes "The datapoints that wait in its file.") (codes "gauge") dest.SpoolDatapoints dests
+    ++ (dest_family (codes "relayd_destination_spool_bytes") (codes "Their bytes.") (codes "gauge") dest.SpoolBytes dests
+    ++ (dest_family (codes "relayd_destination_spool_age_seconds") (codes "How long ago its file was last written; 0 if nothing waits there.") (codes "gauge") dest.SpoolAge dests
+    ++ (dest_family (codes "relayd_destination_spool_datapoints_per_second") (codes "The datapoints of its file that connections took in each second of the last sample.") (codes "gauge") dest.SpoolRate dests)))
+
 -- what has another name now, and goes with the next release
 unfoldable pub old_dest_metrics : List DestSnapshot → List ℕ
 old_dest_metrics dests =
@@ -179,7 +195,7 @@ old_dest_metrics dests =
 -- the metrics of destinations
 unfoldable pub dest_metrics : List DestSnapshot → List ℕ
 dest_metrics dests =
-    connection_metrics dests ++ (queue_metrics dests ++ (count_metrics dests ++ (write_metrics dests ++ old_dest_metrics dests)))
+    connection_metrics dests ++ (queue_metrics dests ++ (count_metrics dests ++ (write_metrics dests ++ (spool_metrics dests ++ old_dest_metrics dests))))
 
 -- of which receiver a metric is
 unfoldable pub receiver_label : ReceiverSnapshot → List ℕ

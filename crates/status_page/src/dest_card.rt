@@ -4,6 +4,7 @@ use crate::headline::{is_away, is_filling, is_flapping, is_losing, is_stuck};
 use crate::headline_text::{push_trouble, seconds_to_full};
 use crate::numbers::{push_count, push_duration, push_millis};
 use crate::snapshot::DestSnapshot;
+use crate::spool_text::{is_waiting, push_waiting};
 use std::alloc::AllocError;
 use std::fmt::Write as _;
 
@@ -24,6 +25,7 @@ pub(crate) fn push_dest_card(
     push_bar(text, dest.counts.queued, size)?;
     push_queue(text, dest, size)?;
     push_rates(text, dest)?;
+    push_spool(text, dest)?;
     push_connection(text, dest)?;
     text.push_str("</section>\n")
 }
@@ -81,6 +83,15 @@ fn push_rates(text: &mut String, dest: &DestSnapshot) -> Result<(), AllocError> 
     text.push_str(" lost since the start, the last ")?;
     push_duration(text, age)?;
     text.push_str(" ago<br>")
+}
+
+/// Adds what waits in its file, if something does.
+fn push_spool(text: &mut String, dest: &DestSnapshot) -> Result<(), AllocError> {
+    if !is_waiting(&dest.spool) {
+        return Ok(());
+    }
+    push_waiting(text, &dest.spool)?;
+    text.push_str("<br>")
 }
 
 /// Adds what happened to its connection.

@@ -3,7 +3,7 @@
 ghost use Rattle.std.specs.Prelude.{◌≡◌, ◌++◌, OnOk};
 ghost use Rattle.std.specs.String.{string_bytes};
 ghost use Rattle.std.specs.List.{flat_map};
-ghost use Rattle.status_page.specs.Metrics.{dest_value, dest_scale, dest_label, dest_sample, dest_family, connection_metrics, queue_metrics, count_metrics, write_metrics, old_dest_metrics, dest_metrics};
+ghost use Rattle.status_page.specs.Metrics.{dest_value, dest_scale, dest_label, dest_sample, dest_family, connection_metrics, queue_metrics, count_metrics, write_metrics, spool_metrics, old_dest_metrics, dest_metrics};
 
 use crate::metrics::{push_head, push_value, truth_number};
 use crate::snapshot::DestSnapshot;
@@ -29,6 +29,10 @@ pub(crate) enum DestMetric {
     WrittenAt,
     Writes,
     WrittenBytes,
+    SpoolDatapoints,
+    SpoolBytes,
+    SpoolAge,
+    SpoolRate,
     Since,
 }
 
@@ -40,6 +44,7 @@ pub(crate) fn push_dests(text: &mut String, dests: &[DestSnapshot]) -> Result<()
     push_queues(text, dests)?;
     push_counts(text, dests)?;
     push_writes(text, dests)?;
+    push_spools(text, dests)?;
     push_old_names(text, dests)
 }
 
@@ -195,6 +200,44 @@ fn push_writes(text: &mut String, dests: &[DestSnapshot]) -> Result<(), AllocErr
     )
 }
 
+/// Adds what waits in the file of each destination, and how fast that goes out.
+fn push_spools(text: &mut String, dests: &[DestSnapshot]) -> Result<(), AllocError>
+    ensures { OnOk result (string_bytes text.new ≡ string_bytes text.old ++ spool_metrics dests.now) }
+{
+    push_dest_family(
+        text,
+        "relayd_destination_spool_datapoints",
+        "The datapoints that wait in its file.",
+        "gauge",
+        DestMetric::SpoolDatapoints,
+        dests,
+    )?;
+    push_dest_family(
+        text,
+        "relayd_destination_spool_bytes",
+        "Their bytes.",
+        "gauge",
+        DestMetric::SpoolBytes,
+        dests,
+    )?;
+    push_dest_family(
+        text,
+        "relayd_destination_spool_age_seconds",
+        "How long ago its file was last written; 0 if nothing waits there.",
+        "gauge",
+        DestMetric::SpoolAge,
+        dests,
+    )?;
+    push_dest_family(
+        text,
+        "relayd_destination_spool_datapoints_per_second",
+        "The datapoints of its file that connections took in each second of the last sample.",
+        "gauge",
+        DestMetric::SpoolRate,
+        dests,
+    )
+}
+
 /// Adds what has another name now, and goes with the next release.
 #[tactic(auto, unfolding(crate::specs::Metrics::old_dest_metrics))]
 fn push_old_names(text: &mut String, dests: &[DestSnapshot]) -> Result<(), AllocError>
@@ -282,6 +325,10 @@ fn dest_value(metric: DestMetric, dest: &DestSnapshot) -> u64
         DestMetric::WrittenAt => dest.written_at,
         DestMetric::Writes => dest.writes.writes,
         DestMetric::WrittenBytes => dest.writes.bytes,
+        DestMetric::SpoolDatapoints => dest.spool.datapoints,
+        DestMetric::SpoolBytes => dest.spool.bytes,
+        DestMetric::SpoolAge => dest.spool.age,
+        DestMetric::SpoolRate => dest.spool.rate,
         DestMetric::Since => dest.since,
     }
 }

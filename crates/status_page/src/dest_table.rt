@@ -4,6 +4,7 @@ use crate::dest_card::percent_of;
 use crate::headline::is_ill;
 use crate::numbers::{push_count, push_duration, push_millis};
 use crate::snapshot::DestSnapshot;
+use crate::spool_text::{is_waiting, push_waiting};
 use std::alloc::AllocError;
 use std::fmt::Write as _;
 
@@ -44,6 +45,11 @@ fn push_row(text: &mut String, dest: &DestSnapshot, size: u64) -> Result<(), All
         text.push_str(" lost, the last ")?;
         push_duration(text, age)?;
         text.push_str(" ago</small>")?;
+    }
+    if is_waiting(&dest.spool) {
+        text.push_str("<br><small>")?;
+        push_waiting(text, &dest.spool)?;
+        text.push_str("</small>")?;
     }
     text.push_str("</td><td>")?;
     push_count(text, dest.rates.written)?;

@@ -3,23 +3,71 @@
 ghost use Rattle.std.specs.Prelude.{◌≡◌, ◌++◌, codes, decimal, length, OnOk};
 ghost use Rattle.std.specs.List.{count_by};
 ghost use Rattle.std.specs.String.{string_bytes};
-ghost use Rattle.status_page.specs.Headline.{is_away, is_of_away, opening, opening_words};
+ghost use Rattle.status_page.specs.Headline.{class_of, heading_start, is_away, is_of_away, opening, opening_words, tag_of, title_start, words_in_colour};
 
-use crate::headline::{Headline, is_away, is_losing, is_stuck};
+use crate::headline::{Headline, headline_of, is_away, is_losing, is_stuck};
 use crate::numbers::{push_count, push_duration, push_millis};
 use crate::plain::plain;
 use crate::snapshot::{DestSnapshot, ReceiverSnapshot, Snapshot};
+use crate::spool_text::waiting_of;
 use log_lines::ReceiverState;
 use std::alloc::AllocError;
 use std::fmt::Write as _;
 
-/// Adds what the status says first, in one sentence.
-pub(crate) fn push_headline(
+/// Begins the title, which is the browser's tab, with the first words of what the status says first.
+pub(crate) fn push_title(text: &mut String, now: &Snapshot) -> Result<(), AllocError>
+    ensures { OnOk result (string_bytes text.new ≡ string_bytes text.old ++ title_start now.now) }
+{
+    text.push_str("<title>")?;
+    push_opening(text, now.dests.as_slice(), headline_of(now))
+}
+
+/// Begins the heading with them, in its colour.
+pub(crate) fn push_heading(text: &mut String, now: &Snapshot) -> Result<(), AllocError>
+    ensures { OnOk result (string_bytes text.new ≡ string_bytes text.old ++ heading_start now.now) }
+{
+    push_words_in_colour(text, now.dests.as_slice(), headline_of(now))
+}
+
+/// Adds a heading's tag in the colour of a headline, and the first words of that.
+fn push_words_in_colour(
+    text: &mut String,
+    dests: &[DestSnapshot],
+    headline: Headline,
+) -> Result<(), AllocError>
+    ensures { OnOk result (string_bytes text.new ≡ string_bytes text.old ++ words_in_colour dests.now headline) }
+{
+    push_tag(text, class_of(headline))?;
+    push_opening(text, dests, headline)
+}
+
+/// Adds the tag of a heading of a class.
+fn push_tag(text: &mut String, class: &str) -> Result<(), AllocError>
+    ensures { OnOk result (string_bytes text.new ≡ string_bytes text.old ++ tag_of class.now) }
+{
+    write!(text, "<h1 class=\"{class}\">")
+}
+
+/// How it is coloured: red where data is lost or soon will be, green where all is well.
+pub(crate) fn class_of(headline: Headline) -> &'static str
+    ensures { result.now ≡ class_of headline }
+{
+    match headline {
+        Headline::Losing { .. }
+        | Headline::Deaf { .. }
+        | Headline::Filling { .. }
+        | Headline::Stuck { .. } => "ill",
+        Headline::Well => "good",
+        _ => "warn",
+    }
+}
+
+/// Adds what follows these words.
+pub(crate) fn push_sentence(
     text: &mut String,
     now: &Snapshot,
     headline: Headline,
 ) -> Result<(), AllocError> {
-    push_opening(text, now.dests.as_slice(), headline)?;
     match headline {
         Headline::Stopping => push_stopping(text, now),
         Headline::Losing { place } => push_losing(text, now, place),
@@ -229,6 +277,11 @@ fn push_well(text: &mut String, now: &Snapshot) -> Result<(), AllocError> {
     text.push_str(" a second in, ")?;
     push_count(text, now.rates.written)?;
     text.push_str(" out, ")?;
+    let (files, waiting) = waiting_of(now.dests.as_slice());
+    if files > 0 {
+        push_count(text, waiting)?;
+        return text.push_str(" wait in files");
+    }
     let oldest = oldest_of(now.dests.as_slice());
     if oldest == 0 {
         return text.push_str("nothing queued");

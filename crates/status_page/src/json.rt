@@ -7,6 +7,7 @@ ghost use Rattle.status_page.specs.Json.{member, listed, next_one, sample_json, 
 
 use crate::headline::{Headline, headline_of, state_name};
 use crate::json_dests::push_dests;
+use crate::json_producers::{push_other_producers, push_producer_list};
 use crate::json_receivers::push_receivers;
 use crate::plain::plain;
 use crate::snapshot::{DestSnapshot, ReceiverSnapshot, Sample, Snapshot};
@@ -23,6 +24,8 @@ pub fn push_json(text: &mut String, now: &Snapshot) -> Result<(), AllocError>
     push_member(text, "sample_seconds", now.sample_seconds)?;
     push_sample_list(text, now.samples.as_slice())?;
     push_configuration(text, plain(now.configuration.as_str()))?;
+    push_producer_list(text, now.producers.as_slice())?;
+    push_other_producers(text, now.other_producers)?;
     text.push_str("}\n")
 }
 

@@ -3,10 +3,10 @@
 ghost use Rattle.std.specs.Prelude.{◌≡◌, ◌++◌, OnOk};
 ghost use Rattle.std.specs.String.{string_bytes};
 ghost use Rattle.std.specs.List.{flat_map};
-ghost use Rattle.status_page.specs.Json.{listed, next_one, truth_json, error_json, counts_json, rates_json, connection_json, dest_name, dest_numbers, last_error_json, dest_json, connection_counts_json, progress_json};
+ghost use Rattle.status_page.specs.Json.{listed, next_one, truth_json, error_json, counts_json, rates_json, connection_json, dest_name, dest_numbers, last_error_json, dest_json, connection_counts_json, progress_json, spool_json};
 
 use crate::json::push_member;
-use crate::snapshot::{ConnectionCounts, DestSnapshot, Rates};
+use crate::snapshot::{ConnectionCounts, DestSnapshot, Rates, SpoolSnapshot};
 use dest_queue::Counts;
 use log_lines::Why;
 use std::alloc::AllocError;
@@ -48,6 +48,7 @@ fn push_dest(text: &mut String, dest: &DestSnapshot) -> Result<(), AllocError>
     push_last_error(text, dest.last_error)?;
     push_connection_counts(text, &dest.connections)?;
     push_progress(text, dest)?;
+    push_spool(text, &dest.spool)?;
     text.push_str("}")
 }
 
@@ -132,6 +133,16 @@ fn push_progress(text: &mut String, dest: &DestSnapshot) -> Result<(), AllocErro
     push_member(text, "last_write_timestamp_seconds", dest.written_at)?;
     push_member(text, "stalled_seconds", dest.stalled)?;
     push_member(text, "oldest_queued_milliseconds", dest.oldest)
+}
+
+/// Adds what waits in its file, and how fast that goes out.
+fn push_spool(text: &mut String, spool: &SpoolSnapshot) -> Result<(), AllocError>
+    ensures { OnOk result (string_bytes text.new ≡ string_bytes text.old ++ spool_json spool.now) }
+{
+    push_member(text, "spool_datapoints", spool.datapoints)?;
+    push_member(text, "spool_bytes", spool.bytes)?;
+    push_member(text, "spool_age_seconds", spool.age)?;
+    push_member(text, "spool_datapoints_per_second", spool.rate)
 }
 
 /// Adds an error, or `null` if there is none.

@@ -47,6 +47,21 @@ fn push_three(text: &mut String, count: u64) -> Result<(), AllocError> {
     write!(text, "{hundreds}{tens}{ones}")
 }
 
+/// Adds a number of bytes, in the greatest unit that it reaches, with one digit behind the point.
+pub(crate) fn push_size(text: &mut String, bytes: u64) -> Result<(), AllocError> {
+    let (tenth, unit): (u64, &str) = if bytes >= 1_000_000_000 {
+        (100_000_000, "GB")
+    } else if bytes >= 1_000_000 {
+        (100_000, "MB")
+    } else if bytes >= 1_000 {
+        (100, "kB")
+    } else {
+        return write!(text, "{bytes} bytes");
+    };
+    let tenths = bytes.checked_div(tenth).unwrap_or(0);
+    write!(text, "{}.{} {unit}", tenths / 10, tenths % 10)
+}
+
 /// Adds a number of seconds in the two greatest units that it reaches.
 pub(crate) fn push_duration(text: &mut String, seconds: u64) -> Result<(), AllocError> {
     let minutes = seconds / 60;

@@ -3,10 +3,11 @@
 use crate::dest_card::push_dest_card;
 use crate::dest_table::push_dest_table;
 use crate::headline::{Headline, headline_of, is_ill};
-use crate::headline_text::push_headline;
+use crate::headline_text::{class_of, push_heading, push_sentence, push_title};
 use crate::numbers::{push_clock, push_duration};
 use crate::plain::plain;
 use crate::plot::push_plots;
+use crate::producer_table::push_producer_table;
 use crate::receiver_table::push_receiver_table;
 use crate::snapshot::{DestSnapshot, Snapshot};
 use std::alloc::AllocError;
@@ -52,26 +53,27 @@ animation:late 0s 6s forwards}@keyframes late{to{max-height:20rem;padding:.7rem 
 /// when out of memory; the text may have a part of it then.
 pub fn push_page(text: &mut String, now: &Snapshot) -> Result<(), AllocError> {
     text.push_str(HEAD)?;
-    push_title(text, now)?;
+    push_top(text, now)?;
     push_cards(text, now.dests.as_slice(), now.queue_size)?;
     push_dest_table(text, now.dests.as_slice(), now.queue_size)?;
     text.push_str("<h2>Receivers</h2>\n")?;
     push_receiver_table(text, now.receivers.as_slice())?;
+    push_producer_table(text, now)?;
     push_plots(text, now.samples.as_slice())?;
     push_foot(text, now)
 }
 
-/// Adds the title, which the browser's tab shows too: what the status says first, and of which machine and moment it is.
-fn push_title(text: &mut String, now: &Snapshot) -> Result<(), AllocError> {
+/// Adds the title and the heading: what the status says first, and of which machine and moment it is.
+fn push_top(text: &mut String, now: &Snapshot) -> Result<(), AllocError> {
     let headline = headline_of(now);
     let host = plain(now.host.as_str());
     push_icon(text, headline)?;
-    text.push_str("<title>")?;
-    push_headline(text, now, headline)?;
+    push_title(text, now)?;
+    push_sentence(text, now, headline)?;
     write!(text, " - relayd at {host}</title></head><body><main>\n")?;
     push_late(text, now)?;
-    write!(text, "<h1 class=\"{}\">", class_of(headline))?;
-    push_headline(text, now, headline)?;
+    push_heading(text, now)?;
+    push_sentence(text, now, headline)?;
     write!(text, "</h1>\n<p>relayd at <b>{host}</b>, ")?;
     push_clock(text, now.clock)?;
     text.push_str(", running for ")?;
@@ -99,18 +101,6 @@ fn push_icon(text: &mut String, headline: Headline) -> Result<(), AllocError> {
         text,
         "<link rel=\"icon\" href=\"data:image/svg+xml,%3Csvg xmlns='http://www.w3.org/2000/svg' viewBox='0 0 8 8'%3E%3Ccircle cx='4' cy='4' r='4' fill='%23{colour}'/%3E%3C/svg%3E\">\n"
     )
-}
-
-/// How the headline is coloured: red where data is lost or soon will be, green where all is well.
-fn class_of(headline: Headline) -> &'static str {
-    match headline {
-        Headline::Losing { .. }
-        | Headline::Deaf { .. }
-        | Headline::Filling { .. }
-        | Headline::Stuck { .. } => "ill",
-        Headline::Well => "good",
-        _ => "warn",
-    }
 }
 
 /// Adds a card for each destination with which something is wrong.

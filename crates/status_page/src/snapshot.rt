@@ -2,7 +2,7 @@
 
 use conf_text::Dest;
 use dest_queue::Counts;
-use log_lines::{DestWrites, LossCounts, ReceiverCounts, ReceiverState, Why};
+use log_lines::{DestWrites, LossCounts, ProducerCounts, ReceiverCounts, ReceiverState, Why};
 
 /// A running relay at a moment.
 #[derive(Drop)]
@@ -37,6 +37,10 @@ pub struct Snapshot {
     pub dests: Vec<DestSnapshot>,
     /// The receivers.
     pub receivers: Vec<ReceiverSnapshot>,
+    /// The producers that sent most in the last ten seconds, the greatest first.
+    pub producers: Vec<ProducerSnapshot>,
+    /// The other ones.
+    pub other_producers: OtherProducers,
     /// For how many seconds each sample counts, about.
     pub sample_seconds: u64,
     /// The samples of the last minutes, the oldest first.
@@ -91,6 +95,21 @@ pub struct DestSnapshot {
     pub oldest: u64,
     /// How many seconds ago its queue last dropped a datapoint, if it ever did.
     pub drop_age: Option<u64>,
+    /// What waits in its file.
+    pub spool: SpoolSnapshot,
+}
+
+/// What waits in the file of a destination.
+#[derive(Clone, Copy)]
+pub struct SpoolSnapshot {
+    /// The datapoints, as far as the file can be read.
+    pub datapoints: u64,
+    /// Their bytes.
+    pub bytes: u64,
+    /// How many seconds ago the file was last written; 0 if nothing waits.
+    pub age: u64,
+    /// How many of the datapoints went out in each second of the last sample.
+    pub rate: u64,
 }
 
 /// How often a destination was connected, lost its connection and could not be connected.
@@ -125,6 +144,28 @@ pub struct ReceiverSnapshot {
     pub bad_rate: u64,
     /// How many seconds ago input was last bad, if it ever was.
     pub bad_age: Option<u64>,
+}
+
+/// A producer at a moment: all that came from one address.
+#[derive(Drop)]
+pub struct ProducerSnapshot {
+    /// Its address.
+    pub address: String,
+    /// What came from there in each of the last seconds.
+    pub rates: ProducerCounts,
+    /// How many connections it has open.
+    pub connections: u64,
+    /// How many seconds ago the oldest of these was taken; 0 if there is none.
+    pub age: u64,
+}
+
+/// The producers that are not shown.
+#[derive(Clone, Copy)]
+pub struct OtherProducers {
+    /// How many addresses these are, as far as they were told apart.
+    pub addresses: u64,
+    /// What came from all of them in each of the last seconds.
+    pub rates: ProducerCounts,
 }
 
 /// How many datapoints were counted in a second.

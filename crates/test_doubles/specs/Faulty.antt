@@ -1,5 +1,5 @@
 -- What a call of a faulty reader or writer does.
-use Rattle.std.specs.Prelude.{ℕ, ◌^◌, ◌-◌, max, List, [], ◌∷◌, Option, Some, None}
+use Rattle.std.specs.Prelude.{ℕ, ◌^◌, ◌-◌, max, min, List, [], ◌∷◌, Option, Some, None}
 use Rattle.std.specs.declared.io.ErrorKind.{ErrorKind}
 use Rattle.std.specs.declared.io.ErrorKind.TheVariants as kind
 use Rattle.test_doubles.specs.declared.step.FaultyStep.{FaultyStep}
@@ -22,6 +22,11 @@ most_of (Some (Pass most)) = Some (max most 1)
 most_of (Some Block) = None
 most_of (Some Interrupt) = None
 most_of (Some Fail) = None
+
+-- how many bytes it moves of those for which there is room
+abbrev pub moved : Option ℕ → (room : ℕ) → ℕ
+moved None room = 0
+moved (Some most) room = min most room
 
 -- the kind of its error, if it has one
 abbrev pub kind_of : Option FaultyStep → Option ErrorKind

@@ -3,7 +3,7 @@ ghost use Rattle.std.specs.Prelude.{◌≡◌, min, length, Ok, Some, IfOk, IfEr
 ghost use Rattle.std.specs.IoError.{error_kind};
 ghost use Rattle.std.specs.Io.{ReadsAtMost};
 ghost use Rattle.std.specs.Io.KnownBytes.{ReadConsumes};
-ghost use Rattle.test_doubles.specs.Faulty.{most_of, kind_of, first_step, later_steps};
+ghost use Rattle.test_doubles.specs.Faulty.{most_of, kind_of, first_step, later_steps, moved};
 
 use crate::step::{FaultyStep, take_step};
 use std::io;
@@ -41,12 +41,14 @@ impl Read for FaultyReader<'_> {
         ensures bound { ReadsAtMost result buf.new }
         ensures bytes { ReadConsumes (Some self.old.left.now) (Some self.new.left.now) result
             buf.new }
+        ensures count { IfOk result (λ count. count
+            ≡ moved (most_of (first_step self.old.steps.now)) (min (length self.old.left.now) (length buf.old))) }
         ensures kind { IfErr result
             (λ e. kind_of (first_step self.old.steps.now) ≡ Some (error_kind e)) }
         ensures rest { self.new.steps.now ≡ later_steps self.old.steps.now }
     {
         let most = take_step(&mut self.steps)?;
-        let count = most.min(self.left.len()).min(buf.len());
+        let count = most.min(self.left.len().min(buf.len()));
         let (given, left) = self.left.split_at(count);
         buf[..count].copy_from_slice(given);
         self.left = left;

@@ -1,8 +1,8 @@
 //! A writer over memory that blocks, is interrupted and fails.
-ghost use Rattle.std.specs.Prelude.{◌≡◌, Some};
+ghost use Rattle.std.specs.Prelude.{◌≡◌, Some, length, IfOk};
 ghost use Rattle.std.specs.Io.{WritesAtMost};
 ghost use Rattle.std.specs.Io.KnownBytes.{Keeps, WriteAppends};
-ghost use Rattle.test_doubles.specs.Faulty.{later_steps};
+ghost use Rattle.test_doubles.specs.Faulty.{first_step, later_steps, most_of, moved};
 
 use crate::step::{FaultyStep, take_step};
 use std::io;
@@ -43,6 +43,8 @@ impl Write for FaultyWriter<'_> {
         ensures bound { WritesAtMost result buf.now }
         ensures bytes { WriteAppends (Some self.old.taken.items) (Some self.new.taken.items)
             result buf.now }
+        ensures count { IfOk result (λ count. count
+            ≡ moved (most_of (first_step self.old.steps.now)) (length buf.now)) }
         ensures rest { self.new.steps.now ≡ later_steps self.old.steps.now }
     {
         let most = take_step(&mut self.steps)?;

@@ -5,7 +5,7 @@ use crate::tests::sendings::Sending;
 use crate::tests::supplies::two_lines;
 use mio_loops::{LISTENER, LogInput, ReadTotals, ReadinessFault, SystemTimes, Token};
 use queue_records::{Door, Made};
-use receivers::{Accept, AcceptOutcome, Datagrams, ReceiverRecord, receive_datagrams};
+use receivers::{Accept, AcceptOutcome, Datagrams, ReceiverRecord, ServedInput, receive_datagrams};
 use relay_base::DestId;
 use senders::{Connect, send_batches};
 use std::alloc::Global;
@@ -88,7 +88,7 @@ impl Accept for FailingListener {
 
     fn note_totals(&mut self, _totals: ReadTotals, _emptied: u64) {}
 
-    fn note_served(&mut self, _token: Token, _has_datapoints: bool) {}
+    fn note_served(&mut self, _token: Token, _served: ServedInput) {}
 
     fn note_fault(&mut self, _fault: ReadinessFault) {}
 }
@@ -133,6 +133,8 @@ impl Datagrams for FailingSocket {
     fn receive(&mut self, buffer: &mut [u8]) -> io::Result<usize> {
         self.datagrams.read(buffer)
     }
+
+    fn note_served(&mut self, _served: ServedInput) {}
 
     fn note_totals(&mut self, _totals: ReadTotals, _emptied: u64) {}
 

@@ -15,7 +15,7 @@ const SECONDS: u64 = 1_795_901_707;
 
 const TIME: &str = "2026-11-28T21:35:07Z";
 
-static FORMS: [Form; 18] = [
+static FORMS: [Form; 24] = [
     Form {
         line: "destination h:1:a connected\n",
         timed: " info destination h:1:a connected\n",
@@ -27,9 +27,39 @@ static FORMS: [Form; 18] = [
         json: r#""level":"warning","destination":"h:1","what":"connected again, was lost: closed by the store"}"#,
     },
     Form {
-        line: "destination h:1 cannot connect: connection refused (error 111)\n",
-        timed: " warning destination h:1 cannot connect: connection refused (error 111)\n",
-        json: r#""level":"warning","destination":"h:1","what":"cannot connect: connection refused (error 111)"}"#,
+        line: "destination h:1 cannot connect to 10.0.0.7:1: no answer\n",
+        timed: " warning destination h:1 cannot connect to 10.0.0.7:1: no answer\n",
+        json: r#""level":"warning","destination":"h:1","what":"cannot connect to 10.0.0.7:1: no answer"}"#,
+    },
+    Form {
+        line: "destination h:1 dropped 12 at a reload\n",
+        timed: " warning destination h:1 dropped 12 at a reload\n",
+        json: r#""level":"warning","destination":"h:1","what":"dropped 12 at a reload","counts":{"dropped":12}}"#,
+    },
+    Form {
+        line: "destination h:1 spool waits, 3 datapoints, 36 bytes, 5 seconds old\n",
+        timed: " info destination h:1 spool waits, 3 datapoints, 36 bytes, 5 seconds old\n",
+        json: r#""level":"info","destination":"h:1","what":"spool waits, 3 datapoints, 36 bytes, 5 seconds old","counts":{"datapoints":3,"bytes":36,"age_seconds":5}}"#,
+    },
+    Form {
+        line: "log: 12 lines lost\n",
+        timed: " warning log: 12 lines lost\n",
+        json: r#""level":"warning","what":"log: 12 lines lost","counts":{"lines_lost":12}}"#,
+    },
+    Form {
+        line: "admin: 1 unknown command, 2 without the key\n",
+        timed: " info admin: 1 unknown command, 2 without the key\n",
+        json: r#""level":"info","what":"admin: 1 unknown command, 2 without the key","counts":{"unknown_commands":1,"without_key":2}}"#,
+    },
+    Form {
+        line: "spool: d/h:1: cannot read at byte 3: Input/output error (os error 5); it stays, and the next run tries again\n",
+        timed: " error spool: d/h:1: cannot read at byte 3: Input/output error (os error 5); it stays, and the next run tries again\n",
+        json: r#""level":"error","what":"spool: d/h:1: cannot read at byte 3: Input/output error (os error 5); it stays, and the next run tries again"}"#,
+    },
+    Form {
+        line: "spool: h:1: too long a name for a file; nothing of it is kept\n",
+        timed: " warning spool: h:1: too long a name for a file; nothing of it is kept\n",
+        json: r#""level":"warning","what":"spool: h:1: too long a name for a file; nothing of it is kept"}"#,
     },
     Form {
         line: "destination h:1 queue full, dropping\n",

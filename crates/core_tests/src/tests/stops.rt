@@ -4,7 +4,7 @@ ghost use Rattle.std.specs.Prelude.{◌≤◌, length};
 
 use crate::tests::receivings::received_by;
 use mio_loops::{LISTENER, LogInput, ReadTotals, ReadinessFault, Token};
-use receivers::{Accept, AcceptOutcome, ReceiverRecord};
+use receivers::{Accept, AcceptOutcome, ReceiverRecord, ServedInput};
 use std::alloc::Global;
 use std::io;
 use std::io::{ErrorKind, Read};
@@ -76,7 +76,7 @@ impl<'a> Accept for StoppingListener<'a> {
         })
     }
 
-    fn note_served(&mut self, _token: Token, _has_datapoints: bool) {}
+    fn note_served(&mut self, _token: Token, _served: ServedInput) {}
 
     fn note_totals(&mut self, totals: ReadTotals, _emptied: u64) {
         self.shared

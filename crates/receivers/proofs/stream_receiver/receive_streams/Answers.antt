@@ -1,4 +1,4 @@
-use Rattle.std.proofs.Common.{sym, subst, ◌∙◌}
+use Rattle.std.proofs.Common.{sym, subst}
 use Rattle.queue_records.specs.Offers.{IsRefusedBy}
 use Rattle.mio_loops.specs.InputLog.{LogState}
 use Rattle.receivers.specs.Record.{RanOrRefused}
@@ -12,7 +12,7 @@ returns-clause-ran g c =
     let may_give = g.T.TimeSource.may_give c.args.times.now in
     let before = g.D.Door.record_of c.args.door in
     let after = g.D.Door.record_of c.take_turns-fault.new.door in
-    subst (λ (l : LogState). RanOrRefused (IsRefusedBy g.D.Door.may_refuse) c.args.kind c.args.plan c.args.receiver may_give l before after) (sym (c.close.ensures ∙ c.hand_over_if.ensures.rest.2))
+    subst (λ (l : LogState). RanOrRefused (IsRefusedBy g.D.Door.may_refuse) c.args.kind c.args.plan c.args.receiver may_give l before after) (sym c.end_loop.ensures)
     (loop-ran (IsRefusedBy g.D.Door.may_refuse) c.args.kind c.args.plan c.args.receiver may_give went.0 went.1 c.in-Ok.reads c.take_turns-fault.new.reads before after
     made.first made.readers.0 made.readers.1 made.log went.2 went.3 went.4)
 

@@ -16,7 +16,7 @@ returns-clause-ran g c =
     let from_new : SomeProgress may_hand (replicate c.args.dests (fresh_outgoing c.args.limit)) c.take_turns-fault.new.writes (record_of c.args.supply) (record_of c.take_turns-fault.new.supply.supply) =
     subst (λ (os : List (OutgoingState g.row.N-Sink.Denot)). SomeProgress may_hand os c.take_turns-fault.new.writes (record_of c.args.supply) (record_of c.take_turns-fault.new.supply.supply)) c.in-Ok.ensures
     (subst (λ (s : g.row.S.Denot). SomeProgress may_hand c.in-Ok.writes c.take_turns-fault.new.writes (record_of s) (record_of c.take_turns-fault.new.supply.supply)) c.new-supply.ensures went) in
-    inl (subst (λ (logs : List WriterLog). RanAsHanded may_hand c.args.dests c.args.limit logs (record_of c.args.supply) (record_of c.into_supply.result)) (sym c.release-logs.ensures)
+    inl (subst (λ (logs : List WriterLog). RanAsHanded may_hand c.args.dests c.args.limit logs (record_of c.args.supply) (record_of c.into_supply.result)) (sym c.release-logs.ensures.logs)
     (subst (λ (s : g.row.S.Denot). RanAsHanded may_hand c.args.dests c.args.limit (map (λ (o : OutgoingState g.row.N-Sink.Denot). o.log) c.take_turns-fault.new.writes) (record_of c.args.supply) (record_of s)) (sym c.into_supply.ensures)
     (ran-from-fresh may_hand c.args.dests c.args.limit _ _ _ from_new)))
 

@@ -1,9 +1,8 @@
 use Rattle.std.proofs.Common.{◌++◌, ap, ◌∙◌}
-use Rattle.std.proofs.lemmas.Result.{on_ok_weaker}
 use Rattle.std.specs.String.{string_bytes}
 use Rattle.status_page.specs.Plain.{plain_text}
 use Rattle.status_page.specs.Headline.{headline}
-use Rattle.status_page.specs.Json.{sizes_json, host_json, headline_json, totals_json, head_json, version_json}
+use Rattle.status_page.specs.Json.{sizes_json, host_json, headline_json, head_json, version_json}
 use Rattle.status_page.proofs.Lists.{also}
 use Rattle.status_page.proofs.json.push_head.Goals as goal
 

@@ -1,5 +1,5 @@
 use Rattle.std.specs.String.{string_bytes}
-use Rattle.status_page.specs.Metrics.{receiver_part, reason_part, reason_label}
+use Rattle.status_page.specs.Metrics.{receiver_part, reason_label}
 use Rattle.status_page.proofs.Lists.{also}
 use Rattle.status_page.proofs.receiver_metrics.push_reason_label.Goals as goal
 

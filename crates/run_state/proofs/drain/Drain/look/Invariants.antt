@@ -1,12 +1,14 @@
-use Rattle.std.proofs.Common.{◌≡◌, ℕ, ◌<◌, ◌≤◌, true}
-use Rattle.run_state.specs.Drain.{IsNotWaitedFor, seen_of}
+use Rattle.std.proofs.Common.{◌≡◌, ℕ, ◌<◌, ◌≤◌, true, false}
+use Rattle.run_state.specs.Drain.{IsWaitedFor, IsNotWaitedFor, seen_of}
 use Rattle.run_state.proofs.drain.Drain.look.Given as goal
 
--- the end is as it was, destinations that were not looked at yet too, and it waits for none of the others if it is over
+-- the end is as it was, destinations that were not looked at yet too; of the others it waits for none if it is over, and for one
+-- if not
 abbrev pub invariant-loop-place : goal.invariant-loop-place
 invariant-loop-place g l = record {
   end : l.self.end ≡ l.fn.self.end;
   files : l.self.has_files ≡ l.fn.self.has_files;
   others : (place : ℕ) → l.place ≤ place → seen_of l.self.progress place ≡ seen_of l.fn.self.progress place;
   over : l.is_over ≡ true → (place : ℕ) → place < l.place → IsNotWaitedFor l.millis l.fn.self.end l.fn.self.has_files (seen_of l.fn.self.progress place) (seen_of l.self.progress place);
+  waits : l.is_over ≡ false → (place : ℕ) × (place < l.place) × IsWaitedFor l.millis l.fn.self.end l.fn.self.has_files (seen_of l.fn.self.progress place) (seen_of l.self.progress place);
 }

@@ -1,0 +1,13 @@
+use Rattle.std.specs.Prelude.{codes}
+use Rattle.std.specs.String.{string_bytes}
+use Rattle.status_page.specs.Json.{member, spool_json}
+use Rattle.status_page.proofs.Lists.{also}
+use Rattle.status_page.proofs.json_dests.push_spool.Goals as goal
+
+pub returns : goal.returns
+unfolding spool_json
+returns c =
+    also c.push_member-4.result (string_bytes c.args.text.now) (member (codes "spool_datapoints") c.args.spool.now.datapoints) _ _ _ c.in_ok-push_member.ensures (
+    also c.push_member-4.result (string_bytes c.push_member.new.text) (member (codes "spool_bytes") c.args.spool.now.bytes) _ _ _ c.in_ok-push_member-2.ensures (
+    also c.push_member-4.result (string_bytes c.push_member-2.new.text) (member (codes "spool_age_seconds") c.args.spool.now.age) _ _ _ c.in_ok-push_member-3.ensures (
+    c.push_member-4.ensures)))

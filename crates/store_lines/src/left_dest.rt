@@ -1,0 +1,136 @@
+//! What is left for a destination between two runs.
+
+ghost use Rattle.std.specs.Prelude.{◌≡◌, Some, None, IfSome};
+
+use handover::Rest;
+use relay_base::DestId;
+use run_state::Signals;
+use senders::{Connect, KeptSocket};
+use spool::{DestSpool, SpoolNotes};
+
+/// What a run that has ended leaves for a destination: what its sender had in hand with what its queue held, the files, and the
+/// connection's socket. The socket goes out with the earlier file, if that is not sent yet, and otherwise with the rest.
+///
+/// What a queue held that has no room behind the rest is another rest, the later one: the first one is to go to the file.
+#[derive(Drop)]
+pub struct LeftDest {
+    /// What its sender had in hand, with what its queue held.
+    pub rest: Option<Rest>,
+    /// The later rest.
+    pub later: Option<Rest>,
+    /// The files.
+    pub files: Option<DestSpool>,
+    /// The connection's socket.
+    pub socket: Option<KeptSocket>,
+}
+
+impl LeftDest {
+    /// Nothing.
+    pub fn none() -> LeftDest {
+        LeftDest::with_files(None)
+    }
+
+    /// Only files.
+    pub fn with_files(files: Option<DestSpool>) -> LeftDest
+        ensures { (result.files ≡ files) × (result.rest ≡ None) × (result.later ≡ None) }
+    {
+        LeftDest {
+            rest: None,
+            later: None,
+            files,
+            socket: None,
+        }
+    }
+
+    /// What is left for a destination of the next run: what was left for it if the run before knew it, otherwise its files.
+    pub fn known_or_new(known: Option<LeftDest>, files: Option<DestSpool>) -> LeftDest
+        ensures known { IfSome known (λ left. result ≡ left) }
+        ensures new { known ≡ None → (result.files ≡ files) × (result.rest ≡ None) × (result.later ≡ None) }
+    {
+        match known {
+            Some(left) => {
+                drop(files);
+                left
+            }
+            None => LeftDest::with_files(files),
+        }
+    }
+
+    /// Puts a rest here, with the later one, if there is one, and the socket that it goes out on, if there is one.
+    pub(crate) fn put_rest(&mut self, rest: Rest, later: Option<Rest>, socket: Option<KeptSocket>)
+        ensures rest { self.new.rest ≡ Some rest }
+        ensures later { self.new.later ≡ later }
+        ensures files { self.new.files ≡ self.old.files }
+        ensures socket { IfSome socket (λ _. self.new.socket ≡ socket) }
+        ensures no_socket { socket ≡ None → self.new.socket ≡ self.old.socket }
+    {
+        self.rest = Some(rest);
+        self.later = later;
+        if socket.is_some() {
+            self.socket = socket;
+        }
+    }
+
+    /// Puts files here, and the socket that the earlier one goes out on, if there is one.
+    pub(crate) fn put_files(&mut self, files: Option<DestSpool>, socket: Option<KeptSocket>)
+        ensures files { self.new.files ≡ files }
+        ensures rest { (self.new.rest ≡ self.old.rest) × (self.new.later ≡ self.old.later) }
+        ensures socket { IfSome socket (λ _. self.new.socket ≡ socket) }
+        ensures no_socket { socket ≡ None → self.new.socket ≡ self.old.socket }
+    {
+        self.files = files;
+        if socket.is_some() {
+            self.socket = socket;
+        }
+    }
+
+    /// How many datapoints wait behind the hand, and how many are in it.
+    pub fn counts(&self) -> (usize, usize) {
+        let (queued, in_hand) = counts_of(&self.rest);
+        let (more, _none_in_hand) = counts_of(&self.later);
+        (queued.saturating_add(more), in_hand)
+    }
+
+    /// Whether no datapoint is left, and no connection.
+    pub fn is_nothing(&self) -> bool {
+        self.counts() == (0, 0) && !self.is_behind_file() && self.socket.is_none()
+    }
+
+    /// Notes what waits in the files, as far as it is counted.
+    pub(crate) fn note_waiting(&self, notes: &SpoolNotes) {
+        if let Some(files) = &self.files {
+            notes.note_waiting(files.waiting());
+        }
+    }
+
+    /// Whether the earlier file is not sent yet.
+    pub fn is_behind_file(&self) -> bool {
+        match &self.files {
+            Some(files) => files.is_behind(),
+            None => false,
+        }
+    }
+}
+
+/// How many datapoints of a rest wait behind the hand, and how many are in it.
+pub fn counts_of(rest: &Option<Rest>) -> (usize, usize) {
+    match rest {
+        Some(rest) => (rest.queued(), rest.in_hand()),
+        None => (0, 0),
+    }
+}
+
+/// The socket of a destination's connection, which goes on in the next run if one follows; otherwise the connection ends.
+pub(crate) fn socket_of<N: Connect>(
+    connector: &mut N,
+    signals: &Signals,
+    dest: DestId,
+    sink: N::Sink,
+) -> Option<KeptSocket> {
+    if signals.is_handing() {
+        connector.take_back(dest, sink)
+    } else {
+        drop(sink);
+        None
+    }
+}

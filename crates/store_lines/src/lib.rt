@@ -1,0 +1,30 @@
+//! What goes out to a store before and after a sender's own lines.
+//!
+//! [`LineSender`] sends to a sender's destinations: to each first what ended runs left for it, a file and then a rest, which its
+//! slot has ([`DestSlots`]); then the batches of its queue; and at the end of a run what is left goes to its file, or, if another
+//! run follows, into the slot. [`PartingJob`] sends what is left to destinations that are gone ([`GoneDests`]).
+//!
+//! `specs/LeftDest.antt` says what is left for a destination ([`LeftDest`]).
+#![tactic(auto)]
+
+mod counted_connector;
+mod dest_list;
+mod dest_slots;
+mod file_end;
+mod gone_dests;
+mod left_dest;
+mod line_sender;
+mod parting_job;
+mod rest_connector;
+mod rest_files;
+mod sender_places;
+mod spool_connector;
+mod spool_left;
+
+pub use dest_slots::DestSlots;
+pub use gone_dests::{GoneDests, PartingDest};
+pub use left_dest::{LeftDest, counts_of};
+pub use line_sender::LineSender;
+pub use parting_job::PartingJob;
+pub use sender_places::{SenderPlaces, Share};
+pub use spool_left::spool_slots;

@@ -1,0 +1,76 @@
+//! What sends a sender's own lines, and what goes out before and after them.
+
+ghost use Rattle.std.specs.Prelude.{◌≡◌, ◌≤◌};
+ghost use Rattle.queue_records.specs.Takes.{IsHandedBy};
+ghost use Rattle.senders.specs.Record.{SenderEnds, EndsFor};
+
+use crate::counted_connector::CountedConnector;
+use crate::rest_connector::RestConnector;
+use crate::sender_places::{SenderPlaces, Share};
+use crate::spool_connector::SpoolConnector;
+use mio_loops::TimeSource;
+use queue_records::Supply;
+use run_state::{BeginNote, EndOrders, EndState, Signals};
+use senders::{SenderRecord, StoreConnector, send_batches};
+use spool::SpoolDisk;
+use std::alloc::Global;
+use std::net::Net;
+use std::rt::Clock;
+use std::sync::Wait;
+
+/// What sends to a sender's share of the destinations: to each first what ended runs left for it, then the batches of a supply,
+/// and at the end what is left to its file.
+#[derive(Drop)]
+pub struct LineSender<'x, R: Wait + SpoolDisk + Drop> {
+    /// What connects to the destinations.
+    pub connector: StoreConnector<'x, R>,
+    /// The places of its files, and of what ended runs left.
+    pub places: SenderPlaces<'x, R>,
+    /// Its share.
+    pub share: Share<'x>,
+    /// The greatest number of datapoints in a batch.
+    pub limit: usize,
+    /// They say which destinations' last connections are files.
+    pub orders: &'x EndOrders,
+    /// Where it is counted what the connections take; `None` if what is queued at the end is lost.
+    pub end: Option<&'x EndState>,
+    ghost few: { (1 ≤ share.dests) × (share.dests ≤ 64) },
+    ghost most: { (1 ≤ limit) × (limit ≤ 10000) },
+}
+
+impl<'x, R: Wait + Clock + Net + SpoolDisk + Copy + Drop> LineSender<'x, R> {
+    /// Sends until the senders' stop flag is set, or a fault, by [`send_batches`].
+    ///
+    /// A connection goes to the file that is still to be sent, then to the rest, then to the batches. So that which knows of rests
+    /// is outside: it takes what the writers have in hand when another run follows.
+    pub fn send<S: Supply + Drop, T: TimeSource>(
+        self,
+        rt: &R,
+        alloc: Global,
+        supply: S,
+        times: &T,
+        signals: &Signals,
+    ) -> SenderRecord<S>
+        ensures ran { SenderEnds (IsHandedBy S.record_of S.may_hand) self.entry.share.dests self.entry.limit result.fault
+            result.logs.items (S.record_of supply) (S.record_of result.outlet) }
+        ensures fault { EndsFor result.fault result.logs.items (S.record_of supply)
+            (S.record_of result.outlet) }
+    {
+        let LineSender {
+            mut connector,
+            mut places,
+            share,
+            limit,
+            orders,
+            end,
+        } = self;
+        let dests = share.dests;
+        places.take_lefts(&share, &mut connector, times.millis());
+        let SenderPlaces { spool, rests } = places;
+        let connector = SpoolConnector::new(connector, *rt, spool, &share, signals, orders);
+        let connector = RestConnector::new(alloc, connector, rests, share, signals);
+        let connector = CountedConnector::new(connector, end, BeginNote::new(signals));
+        let stop = signals.senders();
+        send_batches(rt, alloc, connector, dests, limit, supply, times, stop)
+    }
+}

@@ -1,0 +1,162 @@
+//! What is left for a destination, once nothing more is sent to it.
+
+use crate::dest_slots::DestSlots;
+use crate::left_dest::{LeftDest, counts_of};
+use dest_writer::GatherBuf;
+use handover::{Rest, RestConnection, RestTurn};
+use run_state::GoneEnd;
+use spool::{DestSpool, FileSink, SpoolDisk, SpoolNotes};
+use std::alloc::Global;
+
+/// What became of what was left for a destination, and its files, if there are: the earlier one holds what they keep.
+#[derive(Drop)]
+pub(crate) struct SpooledLeft {
+    pub(crate) end: GoneEnd,
+    pub(crate) files: Option<DestSpool>,
+}
+
+/// Writes to a file what is left for a destination, if files keep that; otherwise it is lost.
+pub(crate) fn spool_left<D: SpoolDisk + Drop>(
+    disk: D,
+    alloc: Global,
+    left: LeftDest,
+    limit: Option<u64>,
+) -> SpooledLeft {
+    let (queued, in_hand) = left.counts();
+    let LeftDest {
+        rest,
+        later,
+        files,
+        socket,
+    } = left;
+    drop(socket);
+    match files {
+        Some(files) => spool_rests(disk, alloc, rest, later, files, limit),
+        None => {
+            drop((disk, rest, later));
+            SpooledLeft {
+                end: GoneEnd {
+                    spooled: 0,
+                    unsent: queued.saturating_add(in_hand) as u64,
+                },
+                files: None,
+            }
+        }
+    }
+}
+
+/// Writes a rest, and the later one, to a destination's file, behind what the earlier one still holds.
+fn spool_rests<D: SpoolDisk + Drop>(
+    disk: D,
+    alloc: Global,
+    rest: Option<Rest>,
+    later: Option<Rest>,
+    files: DestSpool,
+    limit: Option<u64>,
+) -> SpooledLeft {
+    let notes = SpoolNotes::new();
+    let sink = FileSink::new(disk, files, limit, Some(&notes));
+    let (rest, sink) = write_rest(alloc, rest, Some(sink));
+    // Behind what the file did not take, it gets nothing.
+    let (later, sink) = match &rest {
+        Some(_) => (later, sink),
+        None => write_rest(alloc, later, sink),
+    };
+    let unsent = count_of(&rest).saturating_add(count_of(&later));
+    drop((rest, later));
+    let files = match sink {
+        Some(sink) => Some(sink.end()),
+        None => None,
+    };
+    let (taken, kept) = notes.datapoints();
+    SpooledLeft {
+        end: GoneEnd {
+            spooled: kept,
+            unsent: taken.saturating_sub(kept).saturating_add(unsent),
+        },
+        files,
+    }
+}
+
+/// What became of a rest that went to a file: what that did not take, how many datapoints it keeps, how many it took and lost,
+/// and the files.
+#[derive(Drop)]
+pub(crate) struct SpooledRest {
+    pub(crate) left: Option<Rest>,
+    pub(crate) kept: u64,
+    pub(crate) lost: u64,
+    pub(crate) files: Option<DestSpool>,
+}
+
+/// Writes a rest to a destination's file, behind what the earlier one still holds.
+pub(crate) fn spool_rest<D: SpoolDisk + Drop>(
+    disk: D,
+    alloc: Global,
+    rest: Rest,
+    files: DestSpool,
+    limit: Option<u64>,
+) -> SpooledRest {
+    let notes = SpoolNotes::new();
+    let sink = FileSink::new(disk, files, limit, Some(&notes));
+    let (left, sink) = write_rest(alloc, Some(rest), Some(sink));
+    let files = match sink {
+        Some(sink) => Some(sink.end()),
+        None => None,
+    };
+    let (taken, kept) = notes.datapoints();
+    SpooledRest {
+        left,
+        kept,
+        lost: taken.saturating_sub(kept),
+        files,
+    }
+}
+
+/// How many datapoints a rest has.
+fn count_of(rest: &Option<Rest>) -> u64 {
+    let (queued, in_hand) = counts_of(rest);
+    queued.saturating_add(in_hand) as u64
+}
+
+/// Writes a rest, if there is one, to its last connection. Returns what that did not take, and the connection.
+fn write_rest<'n, D: SpoolDisk + Drop>(
+    alloc: Global,
+    rest: Option<Rest>,
+    sink: Option<FileSink<'n, D>>,
+) -> (Option<Rest>, Option<FileSink<'n, D>>) {
+    let Some(rest) = rest else {
+        return (None, sink);
+    };
+    let Some(sink) = sink else {
+        return (Some(rest), None);
+    };
+    let Ok(mut gathered) = GatherBuf::new(alloc) else {
+        return (Some(rest), Some(sink));
+    };
+    let mut connection = RestConnection::new(rest);
+    connection.begin(sink);
+    for _ in 0..u64::MAX {
+        match connection.send(&mut gathered) {
+            RestTurn::Over(sink) => {
+                drop(connection);
+                return (None, Some(sink));
+            }
+            RestTurn::Lost => break,
+            RestTurn::Kept => {}
+        }
+    }
+    let (left, sink) = connection.into_parts();
+    (Some(left), sink)
+}
+
+/// Writes to files what is left in slots, as far as files keep it.
+pub fn spool_slots<D: SpoolDisk + Copy + Drop>(
+    disk: &D,
+    alloc: Global,
+    slots: &DestSlots,
+    limit: Option<u64>,
+) {
+    for place in 0..slots.len() {
+        drop(spool_left(*disk, alloc, slots.take(place), limit));
+    }
+}
