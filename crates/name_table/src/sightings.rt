@@ -40,9 +40,11 @@ impl Sightings {
             return true;
         };
         let mark = mark_of(hash);
-        let is_there = marks.contains(&mark);
+        if marks.contains(&mark) {
+            return true;
+        }
         *marks = [mark, marks[0], marks[1], marks[2]];
-        is_there
+        false
     }
 }
 

@@ -113,6 +113,12 @@ impl<V: OwnedBytes + Drop> NameTable<V> {
         self.find_at_cursor(&self.prefetched.sending, text)
     }
 
+    /// Passes over a name that is not looked up a second time.
+    #[inline(always)]
+    pub fn pass_again(&self) {
+        self.prefetched.sending.step();
+    }
+
     /// The entry of the name that a text is: in the slots at a cursor, or else in those of its hash.
     #[inline(always)]
     fn find_at_cursor(&self, cursor: &Cursor, text: &[u8]) -> Option<&Entry<V>>
@@ -182,12 +188,12 @@ impl<V: OwnedBytes + Drop> NameTable<V> {
     /// for those that come again. It notes that the name came.
     ///
     /// It remembers the last four names of each pair of slots, so it may take a name that comes again after many others
-    /// for a new one. A name that is longer than [`LONGEST_KEPT`] never counts.
+    /// for a new one. A name that is longer than [`LONGEST_KEPT`], which the table never keeps, always counts.
     pub fn is_repeated(&mut self, text: &[u8]) -> bool
         ensures { self.new ≡ self.old }
     {
         if text.len() > LONGEST_KEPT {
-            return false;
+            return true;
         }
         self.make_room();
         self.sightings.meet(hash_of(text))

@@ -12,7 +12,7 @@ ghost use Rattle.router.specs.Route.{IsRouteOf, IsSameRoute};
 use crate::fault::PlanFault;
 use crate::laws;
 use crate::recent_routes::{MOST_HELD, RecentRoutes, RouteKey};
-use crate::route::Route;
+use crate::route::{Route, SentName};
 use crate::routing::Routing;
 use crate::sent::Sent;
 use conf_text::Settings;
@@ -127,8 +127,8 @@ impl Plan {
     /// Like [`Plan::send`], for a caller that sends many datapoints: it lends the room for the destinations, which
     /// replace what `dests` had.
     ///
-    /// The plan remembers what becomes of a name, so it computes that once for many datapoints, which then share one
-    /// name in memory. `NoMemory` leaves the plan unchanged, and some of the datapoint's destinations in `dests`.
+    /// The plan remembers what becomes of a name once it comes again, so it computes that twice for many datapoints, which
+    /// then share one name in memory. `NoMemory` leaves the plan unchanged, and some of the datapoint's destinations in `dests`.
     pub fn send_into(
         &mut self,
         point: Point,
@@ -140,6 +140,9 @@ impl Plan {
         ensures below { OnOk result (are_below self.old.destinations dests.new.items ≡ true) }
         ensures same { self.new ≡ self.old }
     {
+        if self.is_first(&point.name) {
+            return self.send_first(point, dests);
+        }
         // No effect at run time: the proof reads the law.
         laws::route_stays_below();
         match self.names.find_again(point.name.text().as_bytes()) {
@@ -151,6 +154,34 @@ impl Plan {
             }
             None => self.send_other(point, dests),
         }
+    }
+
+    /// Whether a name comes for the first time, as far as the plan can tell: the large table did not hold it as its line
+    /// was read, or else that name would be shared, and it did not meet it lately.
+    fn is_first(&mut self, name: &Arc<Name>) -> bool
+        ensures { self.new ≡ self.old }
+    {
+        Arc::strong_count(name) == 1 && !self.names.is_repeated(name.text().as_bytes())
+    }
+
+    /// Sends a datapoint of a name that comes for the first time. Nothing is remembered of it but that it came, since it
+    /// may never come again.
+    #[inline(never)]
+    fn send_first(
+        &mut self,
+        point: Point,
+        dests: &mut Vec<DestId>,
+    ) -> Result<Option<Arc<Point>>, NoMemory>
+        ensures sent { IfOk result (λ sent.
+            IsSentBy self.old point (option_map (λ p. arc_value p) sent) dests.new.items) }
+        ensures same { self.new ≡ self.old }
+    {
+        // No effect at run time: the proof reads the law.
+        laws::route_stays_below();
+        self.names.pass_again();
+        let sent = SentName::of(self.alloc, &mut self.rewrite, &point.name)?;
+        sent.find_dests(&mut self.routing, &point.name, dests)?;
+        sent.send(self.alloc, point, &mut self.emptied)
     }
 
     /// Sends a datapoint of a name that the large table does not hold: by its recent route, or else by one that it

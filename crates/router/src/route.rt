@@ -5,7 +5,7 @@ ghost use Rattle.std.specs.Arc.{arc_value};
 ghost use Rattle.rewrite_rules.specs.Name.{is_emptied};
 ghost use Rattle.rewrite_rules.specs.Rule.{text_after_all};
 ghost use Rattle.router.specs.Plan.{name_after, under_name};
-ghost use Rattle.router.specs.Route.{IsRouteOf, IsSameRoute, counted, dests_of, dests_on, is_emptied_name, is_emptied_on, sent_name, sent_on};
+ghost use Rattle.router.specs.Route.{IsRouteOf, IsSameRoute, counted, dests_after, dests_of, dests_on, is_emptied_name, is_emptied_on, sent_name, sent_on};
 ghost use Rattle.router.specs.Seen.{routing_seen};
 
 use crate::routing::Routing;
@@ -76,11 +76,7 @@ impl Route {
     {
         let sent = SentName::of(alloc, rewrite, name)?;
         let mut dests = Vec::new(alloc);
-        match &sent {
-            SentName::AsReceived => routing.route(name, &mut dests)?,
-            SentName::Renamed(name) => routing.route(name, &mut dests)?,
-            SentName::Emptied | SentName::Invalid => {}
-        }
+        sent.find_dests(routing, name, &mut dests)?;
         Route::new(alloc, sent, dests)
     }
 
@@ -126,25 +122,16 @@ impl Route {
         ensures emptied { OnOk result (emptied.new
             ≡ (if is_emptied_on self.now then counted (emptied.old + 1) else emptied.old)) }
     {
+        let point = with_shared_name(point, name)?;
         match self {
             Route::ToOne(dest) => {
                 dests.clear();
                 dests.push(*dest)?;
-                let sent = with_shared_name(point, name)?;
-                Ok(Some(Arc::new(alloc, sent)?))
+                Ok(Some(Arc::new(alloc, point)?))
             }
             Route::Other(other) => {
                 other.dests.copy_into(dests)?;
-                let sent = match &other.sent {
-                    SentName::AsReceived => with_shared_name(point, name)?,
-                    SentName::Renamed(name) => with_name(point, name)?,
-                    SentName::Emptied => {
-                        *emptied = emptied.saturating_add(1);
-                        return Ok(None);
-                    }
-                    SentName::Invalid => return Ok(None),
-                };
-                Ok(Some(Arc::new(alloc, sent)?))
+                other.sent.send(alloc, point, emptied)
             }
         }
     }
@@ -169,7 +156,7 @@ impl SentName {
     }
 
     /// What rewrite rules make of a name.
-    fn of(alloc: Global, rules: &mut RewriteRules, name: &Arc<Name>) -> Result<SentName, NoMemory>
+    pub(crate) fn of(alloc: Global, rules: &mut RewriteRules, name: &Arc<Name>) -> Result<SentName, NoMemory>
         ensures name { IfOk result (λ sent. sent_name (arc_value name.now) sent
             ≡ name_after rules.old (arc_value name.now)) }
         ensures emptied { IfOk result (λ sent. is_emptied_name sent
@@ -183,6 +170,53 @@ impl SentName {
             Ok(NewName::Invalid) => Ok(SentName::Invalid),
             Err(fault) => Err(fault),
         }
+    }
+
+    /// Puts the destinations of the name that is sent for a received one in place of what a list had; none if it is
+    /// dropped.
+    pub(crate) fn find_dests(
+        &self,
+        routing: &mut Routing,
+        received: &Name,
+        dests: &mut Vec<DestId>,
+    ) -> Result<(), NoMemory>
+        ensures dests { OnOk result (dests.new.items
+            ≡ dests_after (routing_seen routing.old) (sent_name received.now self.now)) }
+        ensures same { routing.new ≡ routing.old }
+    {
+        match self {
+            SentName::AsReceived => routing.route(received, dests),
+            SentName::Renamed(name) => routing.route(name, dests),
+            SentName::Emptied | SentName::Invalid => {
+                dests.clear();
+                Ok(())
+            }
+        }
+    }
+
+    /// A datapoint of the received name under the name that is sent, or `None` if it is dropped. It is counted if
+    /// rewriting emptied its name.
+    pub(crate) fn send(
+        &self,
+        alloc: Global,
+        point: Point,
+        emptied: &mut u64,
+    ) -> Result<Option<Arc<Point>>, NoMemory>
+        ensures point { IfOk result (λ sent. option_map (λ p. arc_value p) sent
+            ≡ under_name point (sent_name point.name self.now)) }
+        ensures emptied { OnOk result (emptied.new
+            ≡ (if is_emptied_name self.now then counted (emptied.old + 1) else emptied.old)) }
+    {
+        let sent = match self {
+            SentName::AsReceived => point,
+            SentName::Renamed(name) => with_name(point, name)?,
+            SentName::Emptied => {
+                *emptied = emptied.saturating_add(1);
+                return Ok(None);
+            }
+            SentName::Invalid => return Ok(None),
+        };
+        Ok(Some(Arc::new(alloc, sent)?))
     }
 }
 
