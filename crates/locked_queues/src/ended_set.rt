@@ -203,6 +203,7 @@ impl<B: Set> LockedQueue<B> {
         let LockedQueue {
             dest: _,
             queue,
+            keeps_up: _,
             offered,
             dropped,
             taken,

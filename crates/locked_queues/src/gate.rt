@@ -20,10 +20,14 @@ pub enum GatePoint {
 }
 
 /// Called under the queue's lock before each offer and each take: the lock is held as long as the call lasts.
-/// Tests hold a queue that way; `senders` wakes a sender.
+/// Tests hold a queue that way; `senders` wakes a sender. And called under no lock, where a queue fills.
 pub trait Gate {
     /// Is called inside the lock of the destination's queue, before the step.
     fn at(&self, point: GatePoint);
+
+    /// Is called under no lock, before offers to a destination whose queue is at least half full, and not full, although its
+    /// last take had left nothing: its sender may only wait for a processor.
+    fn give_way(&self, dest: DestId);
 }
 
 /// A gate that does nothing.
@@ -32,4 +36,6 @@ pub struct OpenGate;
 
 impl Gate for OpenGate {
     fn at(&self, _point: GatePoint) {}
+
+    fn give_way(&self, _dest: DestId) {}
 }

@@ -22,6 +22,8 @@ use std::sync::Arc;
 pub struct LockedQueue<B: Set> {
     pub(crate) dest: usize,
     pub(crate) queue: DestQueue,
+    // Whether the last take left nothing.
+    pub(crate) keeps_up: bool,
     pub(crate) offered: Total<B>,
     pub(crate) dropped: Total<B>,
     pub(crate) taken: Total<B>,
@@ -99,7 +101,13 @@ impl<B: Set> LockedQueue<B> {
         let _counts = self.queue.counts();
         let taken = book.take_under(&mut self.queue, DestId(self.dest), limit, hand);
         self.taken.add(common, shares, taken as u64);
+        self.keeps_up = taken < limit;
         taken
+    }
+
+    /// Whether the queue fills, although its last take had left nothing.
+    pub(crate) fn fills_at_once(&self) -> bool {
+        self.keeps_up && self.queue.is_filling()
     }
 
     /// What the queue has counted. Its history replays to these counts, and the shares add up to them.

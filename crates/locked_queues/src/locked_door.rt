@@ -112,12 +112,34 @@ impl<'d, B: Set, R: Wait, G: Gate> LockedDoor<'d, B, R, G> {
     fn lock_of(&self, hold: &mut Option<HeldLock<'d, B>>, dest: DestId) -> HeldLock<'d, B>
         requires dest { dest.0 < length self.now.made.totals }
     {
-        if let Some(held) = hold.take() {
-            if held.locked.dest == dest.0 {
-                return held;
-            }
-            drop(held);
+        let Some(held) = hold.take() else {
+            return self.first_lock(dest);
+        };
+        if held.locked.dest == dest.0 {
+            return held;
         }
+        drop(held);
+        self.lock(dest)
+    }
+
+    /// The lock of a destination's queue, where none was held. Before it takes the lock of a queue that fills at once, it gives
+    /// way: offers that follow each other begin so, and those after 64 under one lock.
+    fn first_lock(&self, dest: DestId) -> HeldLock<'d, B>
+        requires dest { dest.0 < length self.now.made.totals }
+    {
+        let held = self.lock(dest);
+        if !held.locked.fills_at_once() {
+            return held;
+        }
+        drop(held);
+        self.gate.give_way(dest);
+        self.lock(dest)
+    }
+
+    /// The lock of a destination's queue.
+    fn lock(&self, dest: DestId) -> HeldLock<'d, B>
+        requires dest { dest.0 < length self.now.made.totals }
+    {
         let queues = self.queues;
         HeldLock {
             locked: queues.locks[dest.0].lock(self.rt),

@@ -71,6 +71,7 @@ fn make_lock<B: Set>(
     let locked = LockedQueue {
         dest,
         queue,
+        keeps_up: false,
         offered,
         dropped,
         taken,

@@ -9,6 +9,8 @@ use std::sync::atomic::{AtomicBool, Ordering};
 pub struct Alarm {
     waker: Waker,
     asleep: AtomicBool,
+    // Whether the sender waits, announced or not, and nobody has cut that short.
+    waits: AtomicBool,
 }
 
 impl Alarm {
@@ -21,6 +23,7 @@ impl Alarm {
         Ok(Alarm {
             waker,
             asleep: AtomicBool::new(false),
+            waits: AtomicBool::new(false),
         })
     }
 
@@ -29,9 +32,22 @@ impl Alarm {
         self.asleep.store(true, Ordering::SeqCst);
     }
 
+    /// A wait begins.
+    pub(crate) fn begin_wait(&self) {
+        self.waits.store(true, Ordering::SeqCst);
+    }
+
     /// The wait is over, and no call needs to end it.
     pub(crate) fn clear(&self) {
         self.asleep.store(false, Ordering::SeqCst);
+        self.waits.store(false, Ordering::SeqCst);
+    }
+
+    /// Ends the wait of the sender, if it waits: also one that it has not announced.
+    pub(crate) fn hurry(&self) {
+        if self.waits.load(Ordering::SeqCst) && self.waits.swap(false, Ordering::SeqCst) {
+            let _ = self.waker.wake();
+        }
     }
 
     /// Ends the wait of the sender that set the alarm. If the alarm is not set, this is one read.

@@ -252,11 +252,13 @@ impl<'g, R: Net + Drop, L: Lookup + Drop> Connect for StoreConnector<'g, R, L> {
 
     fn wait(&mut self, millis: u64) -> Result<&[DestId], ReadinessFault> {
         self.ready.clear();
-        let Ok(tokens) = self.readiness.wait(millis) else {
+        self.alarm.begin_wait();
+        let waited = self.readiness.wait(millis);
+        self.alarm.clear();
+        let Ok(tokens) = waited else {
             note_failed(&self.links, self.notes);
             return Err(ReadinessFault::Device);
         };
-        self.alarm.clear();
         note_ready(tokens, &mut self.links, &mut self.ready);
         note_closed(self.readiness.closed(), &mut self.links);
         read_away(&mut self.links);

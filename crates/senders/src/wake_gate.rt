@@ -2,6 +2,8 @@
 
 use crate::alarm::Alarm;
 use locked_queues::{Gate, GatePoint};
+use relay_base::DestId;
+use std::thread;
 
 /// A gate for the doors and outlets of queues: an offer to a destination ends the wait of its sender, if the
 /// sender is about to wait. Of `n` senders, sender `k` has the destinations `k`, `k + n` and so on.
@@ -24,6 +26,18 @@ impl WakeGate {
         self.alarms.get(sender)
     }
 
+    /// The alarm of the sender that has a destination.
+    #[inline(always)]
+    fn alarm_of(&self, dest: DestId) -> Option<&Alarm> {
+        let senders = self.alarms.len();
+        if senders == 0 {
+            return None;
+        }
+        // A lone sender has all destinations, and needs no division.
+        let sender = if senders == 1 { 0 } else { dest.0 % senders };
+        Some(&self.alarms[sender])
+    }
+
     /// Ends the waits of all senders, so that each sees its stop flag at once. Call it once the flag is set.
     pub fn wake_all(&self) {
         for alarm in &self.alarms {
@@ -37,12 +51,16 @@ impl Gate for WakeGate {
         let GatePoint::InOffer { dest, reader: _ } = point else {
             return;
         };
-        let senders = self.alarms.len();
-        if senders == 0 {
-            return;
+        if let Some(alarm) = self.alarm_of(dest) {
+            alarm.ring();
         }
-        // A lone sender has all destinations, and needs no division.
-        let sender = if senders == 1 { 0 } else { dest.0 % senders };
-        self.alarms[sender].ring();
+    }
+
+    /// Ends the wait of the sender, and gives the processor of this thread away once: the sender may wait for one.
+    fn give_way(&self, dest: DestId) {
+        if let Some(alarm) = self.alarm_of(dest) {
+            alarm.hurry();
+            thread::yield_now();
+        }
     }
 }

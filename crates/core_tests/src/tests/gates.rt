@@ -53,6 +53,8 @@ impl Gate for Holds {
             }
         }
     }
+
+    fn give_way(&self, _dest: DestId) {}
 }
 
 /// Waits for a flag, but not for ever.
