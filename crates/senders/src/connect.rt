@@ -29,27 +29,30 @@ pub trait Connect {
     /// more.
     fn has_closed(&self, dest: DestId) -> bool;
 
+    /// Whether what the sender leaves goes on elsewhere: then no connection is half-closed, and none is waited for.
+    fn hands_over(&self) -> bool {
+        false
+    }
+
+    /// Takes what a sender that was stopped leaves of a destination: its writer, with the batch in hand, and the connection.
+    /// Called once for each destination, in their order. A connector that hands nothing on drops it.
+    fn hand_over(&mut self, _dest: DestId, _left: LeftWriter<Self::Sink>) {}
+
     /// Gives up the connection of a destination for another sender, and returns its socket. `None` if it takes no more, or if
     /// the connector hands nothing on; the connection is closed then.
-    fn take_back(&mut self, dest: DestId, sink: Self::Sink) -> Option<KeptSocket>;
+    fn take_back(&mut self, _dest: DestId, _sink: Self::Sink) -> Option<KeptSocket> {
+        None
+    }
 
     /// The sender has ended, and asks for nothing more: what is still held for its destinations goes on elsewhere, if it does.
-    fn end(&mut self);
+    fn end(&mut self) {}
 
     /// Nothing more is written to the connections: their peers see the end once they have read what was written.
-    fn end_writes(&mut self);
+    fn end_writes(&mut self) {}
 
     /// Whether no peer may still send something, which would take back what it has not read if its connection were
     /// closed now.
-    fn is_quiet(&self) -> bool;
-}
-
-/// Who gets what a sender leaves that was stopped. A connector that has nobody for it is none, and no sender connects through that.
-pub trait HandOver<W> {
-    /// Whether what the sender leaves goes on elsewhere: then no connection is half-closed, and none is waited for.
-    fn hands_over(&self) -> bool;
-
-    /// Takes what the sender leaves of a destination: its writer, with the batch in hand, and the connection. Called once for
-    /// each destination, in their order.
-    fn hand_over(&mut self, dest: DestId, left: LeftWriter<W>);
+    fn is_quiet(&self) -> bool {
+        true
+    }
 }

@@ -1,6 +1,6 @@
 //! Sender threads: each connects to its destinations, takes batches from their queues, and writes them.
 //!
-//! [`send_batches`] is the work of one thread, over any [`Connect`] and any supply of batches, and what it leaves goes to a [`HandOver`]. [`StoreConnector`]
+//! [`send_batches`] is the work of one thread, over any [`Connect`] and any supply of batches. [`StoreConnector`]
 //! connects by the system's sockets, and looks hosts up in threads of their own. A sender waits for its sockets and
 //! for its [`Alarm`], which a [`WakeGate`] rings under a queue's lock.
 //!
@@ -31,7 +31,7 @@ mod wake_gate;
 mod wire;
 
 pub use alarm::Alarm;
-pub use connect::{Connect, HandOver};
+pub use connect::Connect;
 pub use host_addresses::HostAddresses;
 pub use host_lookup::{HostLookup, HostThreads};
 pub use kept_socket::KeptSocket;

@@ -4,7 +4,7 @@ ghost use Rattle.queue_records.specs.Takes.{IsHandedBy};
 ghost use Rattle.senders.specs.Steps.{AllUpOwned, SomeProgress};
 ghost use Rattle.senders.specs.Record.{SenderEnds, EndsFor, AreNone};
 
-use crate::connect::{Connect, HandOver};
+use crate::connect::Connect;
 use crate::counted_supply::CountedSupply;
 use crate::sender_record::SenderRecord;
 use crate::turn::take_turn;
@@ -19,18 +19,12 @@ const LONGEST_END_MS: u64 = 1_000;
 
 /// Takes batches of the destinations that the supply owns, and writes them to their connections, until the
 /// stop flag is set: the sender ends after the turn that sees it. It does not write what is still queued or
-/// in hand: the connector is given that ([`HandOver::hand_over`]).
+/// in hand: the connector is given that ([`Connect::hand_over`]).
 ///
 /// There are 1 to [`MOST_DESTS`] destinations, also those of other senders, and a batch has at most `limit`
 /// datapoints, 1 to [`LARGEST_MESSAGE`]. It ends early if the loop finds no memory at its beginning
 /// (`NoMemory`), and if a wait of the connector fails (`Device`).
-pub fn send_batches<
-    R: Wait,
-    N: Connect + HandOver<N::Sink> + Drop,
-    S: Supply + Drop,
-    T: TimeSource,
-    F: StopFlag,
->(
+pub fn send_batches<R: Wait, N: Connect + Drop, S: Supply + Drop, T: TimeSource, F: StopFlag>(
     rt: &R,
     alloc: Global,
     connector: N,
@@ -101,7 +95,7 @@ struct ToConnector<'c, N> {
     connector: &'c mut N,
 }
 
-impl<N: Connect + HandOver<N::Sink>> LeftTaker<N::Sink> for ToConnector<'_, N> {
+impl<N: Connect> LeftTaker<N::Sink> for ToConnector<'_, N> {
     fn take_left(&mut self, dest: DestId, left: LeftWriter<N::Sink>)
         ensures { Unit {0} }
     {
@@ -111,11 +105,7 @@ impl<N: Connect + HandOver<N::Sink>> LeftTaker<N::Sink> for ToConnector<'_, N> {
 
 /// Half-closes the connections, and waits until no peer may still send something, for [`LONGEST_END_MS`] at most. Does nothing
 /// if the connections go on elsewhere.
-fn end_connections<R: Wait, N: Connect + HandOver<N::Sink>, T: TimeSource>(
-    rt: &R,
-    connector: &mut N,
-    times: &T,
-) {
+fn end_connections<R: Wait, N: Connect, T: TimeSource>(rt: &R, connector: &mut N, times: &T) {
     if connector.hands_over() {
         return;
     }

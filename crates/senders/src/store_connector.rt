@@ -304,8 +304,6 @@ impl<'g, R: Net + Drop, L: Lookup + Drop> Connect for StoreConnector<'g, R, L> {
         kept
     }
 
-    fn end(&mut self) {}
-
     fn end_writes(&mut self) {
         read_away(&mut self.links);
         for link in &self.links {

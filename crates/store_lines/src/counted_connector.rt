@@ -6,7 +6,7 @@ use memchr::memchr_iter;
 use mio_loops::{LeftWriter, ReadinessFault};
 use relay_base::{DestId, MOST_DESTINATIONS};
 use run_state::{BeginNote, EndState};
-use senders::{Connect, HandOver, KeptSocket};
+use senders::{Connect, KeptSocket};
 use std::io;
 use std::io::Write;
 use std::sync::atomic::{AtomicU64, Ordering};
@@ -86,6 +86,19 @@ impl<'c, 's, N: Connect> Connect for CountedConnector<'c, 's, N> {
         self.connector.has_closed(dest)
     }
 
+    fn hands_over(&self) -> bool {
+        self.connector.hands_over()
+    }
+
+    fn hand_over(&mut self, dest: DestId, left: LeftWriter<CountedSink<'c, N::Sink>>) {
+        let LeftWriter { batch, sink } = left;
+        let sink = match sink {
+            Some(sink) => Some(sink.into_sink()),
+            None => None,
+        };
+        self.connector.hand_over(dest, LeftWriter { batch, sink });
+    }
+
     fn take_back(&mut self, dest: DestId, sink: CountedSink<'c, N::Sink>) -> Option<KeptSocket> {
         self.connector.take_back(dest, sink.into_sink())
     }
@@ -100,22 +113,6 @@ impl<'c, 's, N: Connect> Connect for CountedConnector<'c, 's, N> {
 
     fn is_quiet(&self) -> bool {
         self.connector.is_quiet()
-    }
-}
-
-impl<'c, 's, N: Connect + HandOver<N::Sink>> HandOver<CountedSink<'c, N::Sink>>
-    for CountedConnector<'c, 's, N> {
-    fn hands_over(&self) -> bool {
-        self.connector.hands_over()
-    }
-
-    fn hand_over(&mut self, dest: DestId, left: LeftWriter<CountedSink<'c, N::Sink>>) {
-        let LeftWriter { batch, sink } = left;
-        let sink = match sink {
-            Some(sink) => Some(sink.into_sink()),
-            None => None,
-        };
-        self.connector.hand_over(dest, LeftWriter { batch, sink });
     }
 }
 

@@ -41,8 +41,8 @@ pub struct LineSender<'x, R: Wait + SpoolDisk + Drop> {
 impl<'x, R: Wait + Clock + Net + SpoolDisk + Copy + Drop> LineSender<'x, R> {
     /// Sends until the senders' stop flag is set, or a fault, by [`send_batches`].
     ///
-    /// A connection goes to the file that is still to be sent, then to the rest, then to the batches. That which knows of rests
-    /// is outside: it takes what the writers have in hand when another run follows, and no other does.
+    /// A connection goes to the file that is still to be sent, then to the rest, then to the batches. So that which knows of rests
+    /// is outside: it takes what the writers have in hand when another run follows.
     pub fn send<S: Supply + Drop, T: TimeSource>(
         self,
         rt: &R,

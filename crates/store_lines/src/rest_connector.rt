@@ -18,7 +18,7 @@ use handover::{Rest, RestConnection, RestTurn};
 use mio_loops::{LeftBatch, LeftWriter, ReadinessFault};
 use relay_base::{DestId, MOST_DESTINATIONS, NoMemory, add};
 use run_state::{RestNotes, Signals};
-use senders::{Connect, HandOver, KeptSocket};
+use senders::{Connect, KeptSocket};
 use std::alloc::Global;
 use std::io::Write;
 
@@ -417,27 +417,6 @@ impl<'n, N: Connect + RestFiles + Drop> Connect for RestConnector<'n, N> {
         self.connector.has_closed(dest)
     }
 
-    fn take_back(&mut self, dest: DestId, sink: N::Sink) -> Option<KeptSocket> {
-        self.connector.take_back(dest, sink)
-    }
-
-    fn end(&mut self) {
-        for place in 0..self.rests.dests.len() {
-            self.leave(place);
-        }
-        self.connector.end();
-    }
-
-    fn end_writes(&mut self) {
-        self.connector.end_writes();
-    }
-
-    fn is_quiet(&self) -> bool {
-        self.connector.is_quiet()
-    }
-}
-
-impl<'n, N: Connect> HandOver<N::Sink> for RestConnector<'n, N> {
     fn hands_over(&self) -> bool {
         self.signals.is_handing()
     }
@@ -456,5 +435,24 @@ impl<'n, N: Connect> HandOver<N::Sink> for RestConnector<'n, N> {
         };
         let rest = rest_in_hand(self.alloc, batch);
         self.share.slots.leave_rest(dest.0, rest, None, socket);
+    }
+
+    fn take_back(&mut self, dest: DestId, sink: N::Sink) -> Option<KeptSocket> {
+        self.connector.take_back(dest, sink)
+    }
+
+    fn end(&mut self) {
+        for place in 0..self.rests.dests.len() {
+            self.leave(place);
+        }
+        self.connector.end();
+    }
+
+    fn end_writes(&mut self) {
+        self.connector.end_writes();
+    }
+
+    fn is_quiet(&self) -> bool {
+        self.connector.is_quiet()
     }
 }
