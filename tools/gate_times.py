@@ -47,17 +47,19 @@ def part_of(crate, folder):
 
 
 def table(seconds):
-    """The rows of the table, with a last one of the sums."""
+    """The rows of the table, with a last one of the sums, and the sum of all."""
     sums = defaultdict(float)
     for (crate, part), spent in seconds.items():
         sums[part] += spent
     table_rows = [(f"`{crate}`", {part: seconds.get((crate, part), 0.0) for part in PARTS}) for crate in rows()]
     table_rows.append(("all", sums))
-    yield "| Crate | " + " | ".join(PARTS) + " | Sum |"
-    yield "|---|---|---|---|---|"
+    yield "| Crate | " + " | ".join(PARTS) + " |"
+    yield "|---|---|---|---|"
     for name, spent in table_rows:
         cells = [f"{spent[part] / 60:.1f}" if spent[part] >= 3 else "" for part in PARTS]
-        yield f"| {name} | {' | '.join(cells)} | {sum(spent.values()) / 60:.1f} |"
+        yield f"| {name} | {' | '.join(cells)} |"
+    yield ""
+    yield f"Together {sum(sums.values()) / 60:.1f}."
 
 
 def main():

@@ -120,7 +120,7 @@ def wrapped(text, before, width=110):
     return [*lines, line]
 
 
-def page(texts, rows, own, names):
+def page(rows, own):
     """The page for readers."""
     listed = sorted(crate for _, crates in rows for crate in crates)
     lines = [
@@ -128,9 +128,9 @@ def page(texts, rows, own, names):
         "`tools/notices.py` writes this page from `crates.txt` and the licence files of the Rattle kit, and a test "
         "compares it with them. The licence of `relayd` itself is Apache 2.0 ([LICENSE](LICENSE)).", "",
         f"`relayd` links {len(listed)} crates of the kit that have a licence file: ports of Rust crates, crates modelled on "
-        "them, and tables from Unicode's data. Its own crates name "
-        + ", ".join(f"`{name}`" for name in sorted(names & set(listed))) + "; these use the others. A crate under MIT or "
-        "Apache 2.0 is used here under MIT.", "",
+        "them, and tables from Unicode's data. A crate under MIT or "
+        "Apache 2.0 is used here under MIT. [packaging/copyright](packaging/copyright), which an installation has as "
+        "`copyright` beside this page, has the texts of both licences.", "",
         "| Crates | Copyright | Licence |", "|---|---|---|"]
     for (licences, holders), crates in rows:
         lines.append(f"| {', '.join(f'`{crate}`' for crate in crates)} | {'; '.join(holders)} | "
@@ -143,11 +143,6 @@ def page(texts, rows, own, names):
         "## The system", "",
         "The program links one library of the system when it starts, `libc.so.6` of the GNU C Library, which is not part "
         "of the package."]
-    for licence, title in TITLES.items():
-        lines += ["", f"## {title}", ""]
-        for part in texts[licence]:
-            lines += [*wrapped(part, "> "), ">"]
-        lines.pop()
     return "\n".join(lines) + "\n"
 
 
@@ -179,7 +174,7 @@ def main():
     if root is None or not os.path.isdir(root):
         sys.exit("notices: rt is missing: the command of the Rattle kit must be on the PATH")
     texts, rows, own = gathered(root)
-    made = {THIRD_PARTY: page(texts, rows, own, named()), COPYRIGHT: debian(texts, rows, own)}
+    made = {THIRD_PARTY: page(rows, own), COPYRIGHT: debian(texts, rows, own)}
     differ = [name for name, text in made.items()
               if not os.path.exists(os.path.join(TOP, name)) or text_of(os.path.join(TOP, name)) != text]
     if sys.argv[1:] == ["--check"]:
