@@ -45,15 +45,9 @@ pub fn run_live_route<'a>(
         Ok(key) => key,
         Err(status) => return Ok(status),
     };
-    let mut routes = LiveRoutes {
-        rt,
-        alloc,
-        relay: relay_at(admin, &key),
-        form: wanted.form,
-        shows_name: matches!(asked, AskedNames::File(_)),
-        has_fault: false,
-        refused: None,
-    };
+    let relay = relay_at(admin, &key);
+    let shows_name = matches!(asked, AskedNames::File(_));
+    let mut routes = LiveRoutes::new(rt, alloc, relay, wanted.form, shows_name);
     let written = routes.write_asked(files, asked);
     if let Some(fault) = routes.refused {
         return Ok(status_of(rt, admin.port, Err(fault)));
@@ -67,6 +61,25 @@ pub fn run_live_route<'a>(
 }
 
 impl<'r> LiveRoutes<'r> {
+    /// The routes of a relay, of which none was asked for yet.
+    fn new(
+        rt: &'r HostRuntime,
+        alloc: Global,
+        relay: RelayAt<'r>,
+        form: OutputForm,
+        shows_name: bool,
+    ) -> LiveRoutes<'r> {
+        LiveRoutes {
+            rt,
+            alloc,
+            relay,
+            form,
+            shows_name,
+            has_fault: false,
+            refused: None,
+        }
+    }
+
     /// Writes where these go.
     fn write_asked<'a>(
         &mut self,
