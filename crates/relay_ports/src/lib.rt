@@ -18,6 +18,9 @@ mod said_refusals;
 mod shared_listener;
 mod shared_stream;
 mod system_tables;
+mod watched_datagrams;
+mod watched_listener;
+mod watched_stream;
 
 pub use descriptors::{descriptors_needed, free_descriptors};
 pub use inlet::Inlet;

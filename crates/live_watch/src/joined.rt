@@ -1,0 +1,62 @@
+//! What became of the datapoints of a piece.
+
+ghost use Rattle.std.specs.Prelude.{◌≡◌, IfOk};
+ghost use Rattle.router.specs.Plan.{sent_by};
+
+use crate::batch::NotedOffer;
+use crate::found::{Found, FoundPiece};
+use line_text::Point;
+use relay_base::{NoMemory, add};
+use router::{Plan, Sent};
+use std::alloc::Global;
+
+/// What a plan sends of each datapoint of a piece, and how many of the piece's offers come before those of the first.
+#[derive(Drop)]
+pub(crate) struct SentPiece {
+    pub(crate) sent: Vec<Sent>,
+    pub(crate) before: usize,
+}
+
+/// What a plan sends of each datapoint of a piece with these offers; `None` if there are other offers than those that it makes.
+/// The first offers may be of a datapoint whose begin was not seen.
+pub(crate) fn join(
+    alloc: Global,
+    plan: &mut Plan,
+    piece: &FoundPiece,
+    offers: &[NotedOffer],
+) -> Result<Option<SentPiece>, NoMemory>
+    ensures { plan.new ≡ plan.old }
+{
+    let mut sent = Vec::new(alloc);
+    let mut count: usize = 0;
+    for found in piece.found.as_slice() {
+        let one = sent_of(plan, found)?;
+        count = count.saturating_add(one.dests.len());
+        add(&mut sent, one)?;
+    }
+    let Some(before) = offers.len().checked_sub(count) else {
+        drop(sent);
+        return Ok(None);
+    };
+    if before > 0 && piece.is_head_known {
+        drop(sent);
+        return Ok(None);
+    }
+    Ok(Some(SentPiece { sent, before }))
+}
+
+/// What a plan sends of a datapoint.
+fn sent_of(plan: &mut Plan, found: &Found) -> Result<Sent, NoMemory>
+    ensures sent { IfOk result (λ sent. sent ≡ sent_by plan.old found.now.point) }
+    ensures same { plan.new ≡ plan.old }
+{
+    send(plan, &found.point)
+}
+
+/// What a plan sends of a datapoint.
+fn send(plan: &mut Plan, point: &Point) -> Result<Sent, NoMemory>
+    ensures sent { IfOk result (λ sent. sent ≡ sent_by plan.old point.now) }
+    ensures same { plan.new ≡ plan.old }
+{
+    plan.send(point)
+}

@@ -1,0 +1,183 @@
+//! A watch of datapoints.
+
+use crate::agreement::agree;
+use crate::batch::{BatchPiece, NotedOffer};
+use crate::found::FoundPiece;
+use crate::joined::{SentPiece, join};
+use crate::shown::Shown;
+use conf_text::Dest;
+use patterns::Pattern;
+use relay_base::NoMemory;
+use router::{Plan, Sent};
+use std::alloc::Global;
+
+/// How many datapoints are shown in a second at most.
+const MOST_A_SECOND: u64 = 1_000;
+
+/// How many bytes of lines wait at most until they are asked for.
+const MOST_BYTES: usize = 1_048_576;
+
+/// A watch of datapoints: which are wanted, and the lines of those that came since they were asked for last.
+#[derive(Drop)]
+pub(crate) struct LineWatch {
+    pub(crate) is_json: bool,
+    // The place of the destination that is wanted, and the pattern, if one is.
+    pub(crate) dest: Option<usize>,
+    pub(crate) pattern: Option<Pattern>,
+    pub(crate) text: String,
+    pub(crate) lines: u64,
+    pub(crate) counts: LineCounts,
+    second: u64,
+    in_second: u64,
+}
+
+/// What a watch of datapoints has counted: those that are wanted, of them those that were too many to be shown, and the reads
+/// whose datapoints are not known.
+#[derive(Clone, Copy)]
+pub(crate) struct LineCounts {
+    pub(crate) wanted: u64,
+    pub(crate) more: u64,
+    pub(crate) unread: u64,
+}
+
+impl LineWatch {
+    /// A watch that has seen nothing.
+    pub(crate) fn new(
+        alloc: Global,
+        is_json: bool,
+        dest: Option<usize>,
+        pattern: Option<Pattern>,
+    ) -> LineWatch {
+        LineWatch {
+            is_json,
+            dest,
+            pattern,
+            text: String::new(alloc),
+            lines: 0,
+            counts: LineCounts {
+                wanted: 0,
+                more: 0,
+                unread: 0,
+            },
+            second: 0,
+            in_second: 0,
+        }
+    }
+
+    /// Takes a piece with these datapoints and offers, at these milliseconds. A piece whose offers are not those that the plan
+    /// makes is unread.
+    pub(crate) fn take(
+        &mut self,
+        alloc: Global,
+        plan: &mut Plan,
+        dests: &[Dest],
+        piece: &BatchPiece,
+        found: &FoundPiece,
+        offers: &[NotedOffer],
+        millis: u64,
+    ) -> Result<(), NoMemory> {
+        let Some(joined) = join(alloc, plan, found, offers)? else {
+            self.note_unread();
+            return Ok(());
+        };
+        let shown = self.show_all(alloc, dests, piece, found, offers, &joined, millis);
+        drop(joined);
+        shown
+    }
+
+    /// A piece is not shown: its datapoints are not known.
+    pub(crate) fn note_unread(&mut self) {
+        self.counts.unread = self.counts.unread.saturating_add(1);
+    }
+
+    fn show_all(
+        &mut self,
+        alloc: Global,
+        dests: &[Dest],
+        piece: &BatchPiece,
+        found: &FoundPiece,
+        offers: &[NotedOffer],
+        joined: &SentPiece,
+        millis: u64,
+    ) -> Result<(), NoMemory> {
+        let (_, mut rest) = offers.split_at(joined.before.min(offers.len()));
+        for (one, sent) in found.found.as_slice().iter().zip(joined.sent.as_slice()) {
+            let (own, others) = rest.split_at(sent.dests.len().min(rest.len()));
+            rest = others;
+            if !agree(own, sent.dests.as_slice()) {
+                self.note_unread();
+                return Ok(());
+            }
+            let shown = Shown {
+                receiver: piece.head.receiver,
+                producer: piece.head.producer,
+                line: found.line_of(one),
+                point: &one.point,
+                rewritten: name_of(sent),
+                offers: own,
+            };
+            if self.wants(&shown, sent) {
+                self.show(alloc, dests, &shown, millis)?;
+            }
+        }
+        Ok(())
+    }
+
+    /// Whether a datapoint is wanted: its destination is, and the pattern is found in its old or its new name.
+    fn wants(&mut self, shown: &Shown<'_>, sent: &Sent) -> bool {
+        if let Some(dest) = self.dest {
+            if !sent.dests.as_slice().iter().any(|id| id.0 == dest) {
+                return false;
+            }
+        }
+        match &mut self.pattern {
+            None => true,
+            Some(pattern) => {
+                let name = shown.point.name.text();
+                pattern.is_found(name) || is_found_in_new(pattern, name, shown.rewritten)
+            }
+        }
+    }
+
+    /// Shows a datapoint, at these milliseconds, unless there are too many.
+    fn show(
+        &mut self,
+        alloc: Global,
+        dests: &[Dest],
+        shown: &Shown<'_>,
+        millis: u64,
+    ) -> Result<(), NoMemory> {
+        self.counts.wanted = self.counts.wanted.saturating_add(1);
+        if millis.saturating_sub(self.second) >= 1_000 {
+            self.second = millis;
+            self.in_second = 0;
+        }
+        if self.in_second >= MOST_A_SECOND || self.text.len() >= MOST_BYTES {
+            self.counts.more = self.counts.more.saturating_add(1);
+            return Ok(());
+        }
+        self.in_second = self.in_second.saturating_add(1);
+        self.lines = self.lines.saturating_add(1);
+        if self.is_json {
+            shown.push_object(alloc, dests, &mut self.text)
+        } else {
+            shown.push_line(alloc, dests, &mut self.text)
+        }
+    }
+}
+
+/// Whether a pattern is found in a new name, if it is another than the old one.
+fn is_found_in_new(pattern: &mut Pattern, name: &str, rewritten: Option<&str>) -> bool {
+    match rewritten {
+        Some(new) if new != name => pattern.is_found(new),
+        _ => false,
+    }
+}
+
+/// The new name of what is sent, if it is not dropped.
+fn name_of(sent: &Sent) -> Option<&str> {
+    match &sent.point {
+        Some(point) => Some(point.name.text()),
+        None => None,
+    }
+}
