@@ -60,7 +60,7 @@ class Watches(Reloads):
 
     def seen(self, relay, number, count):
         """So many lines of a watch, and its counts then."""
-        lines, end = [], time.monotonic() + LIMIT
+        lines, counts, end = [], [], time.monotonic() + LIMIT
         while len(lines) < count and time.monotonic() < end:
             counts, more = self.gathered(relay, number)
             lines += more
@@ -100,12 +100,12 @@ class Watch(Watches):
         with self.watched() as relay:
             first, second = (dest.encode() for dest in relay.dests)
             number = self.opened(relay)
-            sent = b"both.a\t1.50  1700000000 \nmoved.b 2 1700000001\r\ngone.c 3 1\nnone.d 4 2\nbad\n\ne;x=y 5e0 3\n"
+            sent = b"both.a\t1.50  1700000000 \nmoved.b 2 1700000001\r\ngone 3 1\nnone.d 4 2\nbad\n\ne;x=y 5e0 3\n"
             relay.lines(sent)
             where = b"line\t127.0.0.1\t"
             expected = [where + b"both.a\\x091.50  1700000000\tboth.a\t%s kept\t%s kept" % (first, second),
                         where + b"moved.b 2 1700000001\tboth.b\t%s kept\t%s kept" % (first, second),
-                        where + b"gone.c 3 1\tdropped", where + b"none.d 4 2\tnone.d",
+                        where + b"gone 3 1\tdropped", where + b"none.d 4 2\tnone.d",
                         where + b"e;x=y 5e0 3\te;x=y\t%s kept" % first]
             self.assertEqual(self.seen(relay, number, 5)[0], expected)
             relay.pickles(pickle.dumps([("moved.p", (1700000000, 1.5)), ("bad name", (1, 1)), ("q", (2, 7))], 2))
@@ -153,16 +153,14 @@ class Watch(Watches):
     def test_pattern(self):
         """It is found in the name before rewriting or after, anywhere in it; case counts."""
         with self.watched() as relay:
-            for pattern, found in ((b"^moved", [b"moved.x 1 2"]), (b"^both", [b"both.y 1 2", b"moved.x 1 2"]), (b"\\.x$", [b"moved.x 1 2"]),
-                                   (b"ONE", []), (b"(?i)OTH|zz z", [b"both.y 1 2", b"moved.x 1 2", b"other 1 2"])):
+            sent = b"both.y 1 2\nmoved.x 1 2\nother 1 2\n"
+            for pattern, found in ((b"^moved", [b"moved.x"]), (b"^both", [b"both.y", b"moved.x"]), (b"\\.x$", [b"moved.x"]),
+                                   (b"ONE", []), (b"(?i)OTH|zz z", [b"both.y", b"moved.x", b"other"])):
                 with self.subTest(pattern):
                     number = self.opened(relay, b"lines find " + pattern)
-                    relay.lines(b"both.y 1 2\nmoved.x 1 2\nother 1 2\nend.both.moved.x 1 2\n" if pattern.endswith(b"$")
-                                else b"both.y 1 2\nmoved.x 1 2\nother 1 2\n")
-                    expected = found + ([b"end.both.moved.x 1 2"] if pattern.endswith(b"$") else [])
-                    if expected:
-                        lines, _ = self.seen(relay, number, len(expected))
-                        self.assertEqual([line.split(b"\t")[2] for line in lines], expected)
+                    relay.lines(sent)
+                    lines, _ = self.seen(relay, number, len(found))
+                    self.assertEqual([line.split(b"\t")[2] for line in lines], [name + b" 1 2" for name in found])
                     self.ends(relay, number)
             self.assertEqual(relay.command(b"watch lines find ("), b"refused not a pattern\n")
 
@@ -296,11 +294,12 @@ class Asked(Watches):
 
     def test_words(self):
         """What it takes."""
-        for words in ((), ("--admin", "0"), ("--admin", "1", "--names", "0"), ("--admin", "1", "--names", "65"), ("--admin", "1", "--lines", "0"),
-                      ("--admin", "1", "--seconds", "3601"), ("--admin", "1", "--names", "2", "a"), ("--admin", "1", "a", "b"),
-                      ("--admin", "1", "--names", "2", "--dest", "h:1")):
+        for words in ((), ("--admin", "0")):
+            self.assertEqual(run(("watch", *words)).status, 2)
+        for words in (("--names", "0"), ("--names", "65"), ("--lines", "0"), ("--seconds", "3601"), ("--names", "2", "a"), ("a", "b"),
+                      ("--names", "2", "--dest", "h:1")):
             with self.subTest(words):
-                self.assertEqual(run(("watch", *words)).status, 2)
+                self.assertEqual(run(("watch", "--admin", "1", *words)).status, 2)
 
     def test_a_reload_and_a_stop(self):
         """It goes on by the new configuration; with the relay it ends."""
@@ -359,7 +358,8 @@ class Names(Watches):
             relay.datagram(b"a.c 1 2\n")
             self.wait_for(lambda: self.gathered(relay, number)[0][0] == 6, "all were counted")
             counts, lines = self.gathered(relay, number, b"end")
-            self.assertEqual((counts, lines[0], sorted(lines[1:])), ([6, 4, 0, 0, 0], b"3 0 a.b", [b"1 0 a.c", b"1 0 moved", b"1 0 x"]))
+            self.assertEqual(counts, [6, 4, 0, 0, 0])
+            self.assertEqual((lines[0], sorted(lines[1:])), (b"3 0 a.b", [b"1 0 a.c", b"1 0 moved", b"1 0 x"]))
 
     def test_more_than_are_counted(self):
         """A name that comes often is there, whatever else comes; its error says how much of its count may be of others."""
@@ -381,7 +381,7 @@ class Names(Watches):
         with self.watched() as relay:
             for words, first in (((), b"%12d a" % 3), (("--json",), b'{"name":"a","datapoints":3,"too_many_at_most":0}')):
                 with self.subTest(words), self.client(relay, "--names", "1", "--lines", "1", "--seconds", "2", *words) as child:
-                    self.wait_for(lambda: relay.command(b"watch names 1") == ANOTHER or child.poll() is not None, "it watches")
+                    self.wait_for(lambda: relay.command(b"watch names 0") == ANOTHER or child.poll() is not None, "it watches")
                     relay.lines(b"a.b 1 2\na.c 1 2\nb 1 2\na 1 2\n")
                     out, err = child.communicate(timeout=LIMIT)
                     self.assertEqual((out, err), (first + b"\n", b"relayd: watch: 4 datapoints, 2 names new\n"))

@@ -10,7 +10,7 @@ use crate::paths::Paths;
 use crate::run_options::{RunOptions, run_options};
 use crate::standard_input::{CONFIGURATION_FILES, REPLAY_FILES, ROUTE_FILES, check_inputs};
 use crate::tips::with_tip;
-use crate::watch_options::{Watching, watching};
+use crate::watch_options::{Watching, watching_of};
 use clap::error::ErrorKind;
 use clap::{ArgMatches, Error};
 use line_text::Moment;
@@ -199,7 +199,7 @@ fn report_invocation(alloc: Global, options: &ArgMatches<'_>) -> Result<Invocati
 fn watch_invocation(alloc: Global, options: &ArgMatches<'_>) -> Result<Invocation, Error> {
     Ok(Invocation::Watch {
         admin: admin_at(alloc, options, &WATCH)?,
-        watching: watching(alloc, options)?,
+        watching: watching_of(alloc, options)?,
     })
 }
 

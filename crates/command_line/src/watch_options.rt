@@ -42,7 +42,7 @@ pub enum WatchWanted {
 }
 
 /// What the options ask for.
-pub(crate) fn watching(alloc: Global, options: &ArgMatches<'_>) -> Result<Watching, Error> {
+pub(crate) fn watching_of(alloc: Global, options: &ArgMatches<'_>) -> Result<Watching, Error> {
     let lines = number_option(alloc, options, "lines", "--lines <N>", MOST_LINES)?;
     let seconds = number_option(
         alloc,

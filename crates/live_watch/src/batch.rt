@@ -26,8 +26,8 @@ pub enum PieceStart {
     Within { lacks: usize },
 }
 
-/// What is known of a piece before it is read: its receiver, what reads it, the address from which it came, the number of its connection at
-/// its receiver, and where it begins.
+/// What is known of a piece before it is read: its receiver, what reads it, the address from which it came, the number of its
+/// connection there, and where it begins.
 #[derive(Clone, Copy)]
 pub struct PieceHead {
     /// The name of its receiver.

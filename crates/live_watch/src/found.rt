@@ -51,10 +51,10 @@ impl FoundPiece {
 
     /// The line of a datapoint, as it was read; nothing of a row of a pickle.
     pub(crate) fn line_of(&self, found: &Found) -> &[u8] {
-        self.text
-            .as_slice()
-            .get(found.from..found.to)
-            .unwrap_or(&[])
+        match self.text.as_slice().get(found.from..found.to) {
+            Some(line) => line,
+            None => &[],
+        }
     }
 
     /// Adds the rows of pickles.

@@ -3,6 +3,7 @@
 ghost use Rattle.std.specs.Prelude.{◌≡◌, IfOk};
 ghost use Rattle.router.specs.Plan.{sent_by};
 
+use crate::agreement::agree;
 use crate::batch::NotedOffer;
 use crate::found::{Found, FoundPiece};
 use line_text::Point;
@@ -38,11 +39,27 @@ pub(crate) fn join(
         drop(sent);
         return Ok(None);
     };
-    if before > 0 && piece.is_head_known {
+    let is_head_whole = before == 0 || !piece.is_head_known;
+    let (_, own) = offers.split_at(before.min(offers.len()));
+    if is_head_whole && all_agree(own, sent.as_slice()) {
+        Ok(Some(SentPiece { sent, before }))
+    } else {
         drop(sent);
-        return Ok(None);
+        Ok(None)
     }
-    Ok(Some(SentPiece { sent, before }))
+}
+
+/// Whether these offers are those of each datapoint, one after the other.
+fn all_agree(offers: &[NotedOffer], sent: &[Sent]) -> bool {
+    let mut rest = offers;
+    for one in sent {
+        let (own, others) = rest.split_at(one.dests.len().min(rest.len()));
+        rest = others;
+        if !agree(own, one.dests.as_slice()) {
+            return false;
+        }
+    }
+    true
 }
 
 /// What a plan sends of a datapoint.

@@ -1,6 +1,5 @@
 //! A watch of datapoints.
 
-use crate::agreement::agree;
 use crate::batch::{BatchPiece, NotedOffer};
 use crate::found::FoundPiece;
 use crate::joined::{SentPiece, join};
@@ -80,9 +79,9 @@ impl LineWatch {
             self.note_unread();
             return Ok(());
         };
-        let shown = self.show_all(alloc, dests, piece, found, offers, &joined, millis);
+        self.show_all(alloc, dests, piece, found, offers, &joined, millis);
         drop(joined);
-        shown
+        Ok(())
     }
 
     /// A piece is not shown: its datapoints are not known.
@@ -99,15 +98,11 @@ impl LineWatch {
         offers: &[NotedOffer],
         joined: &SentPiece,
         millis: u64,
-    ) -> Result<(), NoMemory> {
+    ) {
         let (_, mut rest) = offers.split_at(joined.before.min(offers.len()));
         for (one, sent) in found.found.as_slice().iter().zip(joined.sent.as_slice()) {
             let (own, others) = rest.split_at(sent.dests.len().min(rest.len()));
             rest = others;
-            if !agree(own, sent.dests.as_slice()) {
-                self.note_unread();
-                return Ok(());
-            }
             let shown = Shown {
                 receiver: piece.head.receiver,
                 producer: piece.head.producer,
@@ -117,10 +112,9 @@ impl LineWatch {
                 offers: own,
             };
             if self.wants(&shown, sent) {
-                self.show(alloc, dests, &shown, millis)?;
+                self.show(alloc, dests, &shown, millis);
             }
         }
-        Ok(())
     }
 
     /// Whether a datapoint is wanted: its destination is, and the pattern is found in its old or its new name.
@@ -139,14 +133,8 @@ impl LineWatch {
         }
     }
 
-    /// Shows a datapoint, at these milliseconds, unless there are too many.
-    fn show(
-        &mut self,
-        alloc: Global,
-        dests: &[Dest],
-        shown: &Shown<'_>,
-        millis: u64,
-    ) -> Result<(), NoMemory> {
+    /// Shows a datapoint, at these milliseconds, unless there are too many or it is out of memory.
+    fn show(&mut self, alloc: Global, dests: &[Dest], shown: &Shown<'_>, millis: u64) {
         self.counts.wanted = self.counts.wanted.saturating_add(1);
         if millis.saturating_sub(self.second) >= 1_000 {
             self.second = millis;
@@ -154,15 +142,29 @@ impl LineWatch {
         }
         if self.in_second >= MOST_A_SECOND || self.text.len() >= MOST_BYTES {
             self.counts.more = self.counts.more.saturating_add(1);
-            return Ok(());
+            return;
         }
         self.in_second = self.in_second.saturating_add(1);
-        self.lines = self.lines.saturating_add(1);
-        if self.is_json {
-            shown.push_object(alloc, dests, &mut self.text)
-        } else {
-            shown.push_line(alloc, dests, &mut self.text)
+        match self.push(alloc, dests, shown) {
+            Ok(()) => self.lines = self.lines.saturating_add(1),
+            Err(_) => self.counts.more = self.counts.more.saturating_add(1),
         }
+    }
+
+    /// Adds the line of a datapoint, or its object. If out of memory, it adds nothing.
+    fn push(&mut self, alloc: Global, dests: &[Dest], shown: &Shown<'_>) -> Result<(), NoMemory> {
+        let mut line = String::new(alloc);
+        let pushed = if self.is_json {
+            shown.push_object(alloc, dests, &mut line)
+        } else {
+            shown.push_line(alloc, dests, &mut line)
+        };
+        let added = match pushed {
+            Ok(()) => self.text.push_str(line.as_str()).map_err(|_| NoMemory),
+            Err(fault) => Err(fault),
+        };
+        drop(line);
+        added
     }
 }
 

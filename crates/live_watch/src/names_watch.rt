@@ -43,7 +43,7 @@ impl NamesWatch {
     pub(crate) fn push_greatest(&mut self, text: &mut String) -> Result<u64, NoMemory> {
         let sketch = mem::replace(&mut self.sketch, NameSketch::new(self.alloc));
         let greatest = sketch.into_greatest()?;
-        let mut count = 0;
+        let mut count: u64 = 0;
         for counter in greatest.as_slice().iter().take(MOST_SAID) {
             writeln!(
                 text,
@@ -52,7 +52,7 @@ impl NamesWatch {
                 counter.error,
                 counter.text.as_str()
             )?;
-            count += 1;
+            count = count.saturating_add(1);
         }
         drop(greatest);
         Ok(count)

@@ -42,8 +42,9 @@ struct WatchClient<'r, R> {
     shown: u64,
     earlier: WatchTotals,
     totals: WatchTotals,
-    // How many times the watch began anew.
+    // How many times the watch began anew, and since when the relay opens none.
     again: u64,
+    ends_since: Option<u64>,
 }
 
 /// Why a watch ends before its time.
@@ -81,6 +82,7 @@ pub fn run_watch<R: Wait>(
         earlier: WatchTotals::none(),
         totals: WatchTotals::none(),
         again: 0,
+        ends_since: None,
     };
     let ended = client.go_on();
     client.say_end();
@@ -166,11 +168,12 @@ impl<R: Wait> WatchClient<'_, R> {
         match watch_answer_in(answer) {
             Some(WatchAnswer::Opened(number)) => {
                 self.number = number_in(number);
+                self.ends_since = None;
                 Ok(())
             }
             Some(WatchAnswer::Refused(why)) => {
                 let why = utf8_text(why.strip_suffix(b"\n").unwrap_or(why)).unwrap_or("");
-                if why == ENDS && self.millis() < MOST_TRIES_MS.saturating_mul(self.again + 1) {
+                if why == ENDS && self.may_try() {
                     return Ok(());
                 }
                 match String::from_str(self.alloc, why) {
@@ -180,6 +183,14 @@ impl<R: Wait> WatchClient<'_, R> {
             }
             _ => Err(Ended::Fault(AdminFault::NoRelay)),
         }
+    }
+
+    /// Whether a relay whose run ends is to be asked again.
+    fn may_try(&mut self) -> bool {
+        let now = self.millis();
+        let since = self.ends_since.unwrap_or(now);
+        self.ends_since = Some(since);
+        now.saturating_sub(since) < MOST_TRIES_MS
     }
 
     /// Asks the watch of this number what it has gathered, for the last time or not, and shows that.
