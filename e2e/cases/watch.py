@@ -9,6 +9,7 @@ import socket
 import threading
 import time
 
+from cases.status import Serving
 from fixtures.answering import answering
 from fixtures.harness import LIMIT, Ran, held, run
 from fixtures.reloading import Reloads
@@ -21,6 +22,7 @@ SILENCE = 3         # seconds for which a watch goes on that nobody asks
 AWAY = "127.0.0.1:1"
 BURST = 5_000
 LOAD = 300_000      # datapoints
+NAMES = 1_000       # of these
 OVER = b"over\n"
 ANOTHER = b"refused another watch is open\n"
 
@@ -296,8 +298,8 @@ class Asked(Watches):
         """What it takes."""
         for words in ((), ("--admin", "0")):
             self.assertEqual(run(("watch", *words)).status, 2)
-        for words in (("--names", "0"), ("--names", "65"), ("--lines", "0"), ("--seconds", "3601"), ("--names", "2", "a"), ("a", "b"),
-                      ("--names", "2", "--dest", "h:1")):
+        for words in (("--names", "0"), ("--names", "65"), ("--lines", "0"), ("--seconds", "3601"), ("--names", "2", "a"),
+                      ("a", "b"), ("--names", "2", "--dest", "h:1")):
             with self.subTest(words):
                 self.assertEqual(run(("watch", "--admin", "1", *words)).status, 2)
 
@@ -322,7 +324,7 @@ class Asked(Watches):
         """All datapoints arrive while one watches, and each is shown, counted or missed."""
         stores = self.stores(2)
         with self.watched(dests=[f"127.0.0.1:{store.port}" for store in stores], MAX_QUEUE_SIZE="1000000") as relay:
-            number = self.opened(relay, b"lines find \\.7 ")
+            number = self.opened(relay, b"lines find \\.7$")
             done = threading.Event()
             lines, counts = [], []
 
@@ -334,7 +336,7 @@ class Asked(Watches):
 
             asking = threading.Thread(target=ask)
             asking.start()
-            text = b"".join(b"n.%d %d 1700000000\n" % (place % 1000, place) for place in range(LOAD))
+            text = b"".join(b"n.%d %d 1700000000\n" % (place % NAMES, place) for place in range(LOAD))
             try:
                 relay.lines(text)
                 self.wait_for(lambda: relay.totals()["taken"] == LOAD, "all were taken")
@@ -345,6 +347,8 @@ class Asked(Watches):
             self.wait_for(lambda: len(stores[0].lines()) == LOAD, "all arrived")
             self.assertEqual(sorted(stores[0].lines()), sorted(text.splitlines()))
             self.assertEqual(counts[0] - counts[1], len(lines))
+            if counts[2:] == [0, 0, 0]:
+                self.assertEqual(counts[0], LOAD // NAMES)
 
 
 class Names(Watches):
@@ -385,3 +389,29 @@ class Names(Watches):
                     relay.lines(b"a.b 1 2\na.c 1 2\nb 1 2\na 1 2\n")
                     out, err = child.communicate(timeout=LIMIT)
                     self.assertEqual((out, err), (first + b"\n", b"relayd: watch: 4 datapoints, 2 names new\n"))
+
+
+class Card(Serving):
+    """The card of a destination that loses datapoints."""
+
+    def test_the_command(self):
+        """It has the command that shows what goes there, which runs as it is."""
+        dests = [f"127.0.0.1:{port}:a" for port in free_ports(2)]
+        key = os.path.join(os.fspath(self.folder), "key")
+        with open(key, "w", encoding="ascii") as file:
+            file.write("k" * 20 + "\n")
+        os.chmod(key, 0o600)
+        for options, words in (((), ""), (("--admin-key", key), " --admin-key FILE")):
+            lost = "[all]\ndefault = true\ndestinations = {}\n".format(dests[1])
+            with self.subTest(words), self.serving(dests, options=options, rules=lost, MAX_QUEUE_SIZE="10") as relay:
+                command = f"relayd watch --admin {relay.admin}{words} --dest {dests[1]}"
+
+                def page():
+                    relay.lines(b"a 1 2\n" * 50)
+                    return self.ask(relay, "/")[2]
+
+                self.wait_for(lambda: f">{command}</code>" in page(), f"it says {command}")
+                self.assertNotIn(f"--dest {dests[0]}", page())
+                words = command.replace("FILE", key).split()[1:]
+                self.assertEqual(run((*words, "--seconds", "1"))[::2], (0, b"relayd: watch: 0 datapoints\n"))
+                self.assertEqual(run(("stop", "--wait", "--admin", str(relay.admin), *options)).status, 0)

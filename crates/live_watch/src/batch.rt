@@ -51,6 +51,15 @@ pub(crate) struct BatchPiece {
     pub(crate) is_whole: bool,
 }
 
+/// A piece with its bytes and its offers, and whether all of these are there.
+#[derive(Clone, Copy)]
+pub(crate) struct SeenPiece<'b> {
+    pub(crate) head: PieceHead,
+    pub(crate) bytes: &'b [u8],
+    pub(crate) offers: &'b [NotedOffer],
+    pub(crate) is_whole: bool,
+}
+
 /// An offer that was made.
 #[derive(Clone, Copy)]
 pub struct NotedOffer {

@@ -1,6 +1,6 @@
 //! The connections of a receiver, as a watch sees them.
 
-use crate::batch::{BatchPiece, PieceStart};
+use crate::batch::{PieceHead, PieceStart, SeenPiece};
 use crate::found::{FoundPiece, LineEnds};
 use line_text::Moment;
 use pickle_subset::PickleReader;
@@ -39,15 +39,15 @@ impl ConnectionShadows {
     /// The datapoints of a piece. If out of memory, nothing is known of its connection.
     pub(crate) fn read(
         &mut self,
-        piece: &BatchPiece,
-        bytes: &[u8],
+        piece: SeenPiece<'_>,
         moment: Moment,
     ) -> Result<FoundPiece, NoMemory> {
+        let SeenPiece { head, bytes, .. } = piece;
         let mut found = FoundPiece::none(self.alloc);
-        match piece.head.kind {
+        match head.kind {
             ReaderKind::Datagram => read_datagram(self.alloc, bytes, moment, &mut found)?,
-            ReaderKind::Line => self.read_lines(piece, bytes, moment, &mut found)?,
-            ReaderKind::Pickle => self.read_frames(piece, bytes, moment, &mut found)?,
+            ReaderKind::Line => self.read_lines(head, bytes, moment, &mut found)?,
+            ReaderKind::Pickle => self.read_frames(head, bytes, moment, &mut found)?,
         }
         Ok(found)
     }
@@ -74,14 +74,14 @@ impl ConnectionShadows {
     /// The datapoints of a piece of lines.
     fn read_lines(
         &mut self,
-        piece: &BatchPiece,
+        head: PieceHead,
         bytes: &[u8],
         moment: Moment,
         found: &mut FoundPiece,
     ) -> Result<(), NoMemory> {
-        let connection = piece.head.connection;
+        let connection = head.connection;
         let unread = self.take(connection);
-        let Some(begun) = line_begun(self.alloc, piece.head.start, unread) else {
+        let Some(begun) = line_begun(self.alloc, head.start, unread) else {
             found.is_head_known = false;
             let Some(first) = bytes.iter().position(is_newline) else {
                 return Ok(());
@@ -119,14 +119,14 @@ impl ConnectionShadows {
     /// The datapoints of a piece of frames.
     fn read_frames(
         &mut self,
-        piece: &BatchPiece,
+        head: PieceHead,
         bytes: &[u8],
         moment: Moment,
         found: &mut FoundPiece,
     ) -> Result<(), NoMemory> {
-        let connection = piece.head.connection;
+        let connection = head.connection;
         let unread = self.take(connection);
-        let Some(begun) = frame_begun(self.alloc, piece.head.start, unread, bytes.len()) else {
+        let Some(begun) = frame_begun(self.alloc, head.start, unread, bytes.len()) else {
             found.is_head_known = false;
             return Ok(());
         };

@@ -2,8 +2,9 @@
 
 use crate::line_watch::LineWatch;
 use crate::names_watch::NamesWatch;
-use crate::open_watch::{OpenWatch, ReadTime, Routes, Watched};
+use crate::open_watch::{OpenWatch, Watched};
 use crate::place::WatchPlaces;
+use crate::reading::Reading;
 use admin_client::{LinesWatch, WatchRequest, watch_request_in};
 use conf_text::Dest;
 use line_text::Moment;
@@ -132,14 +133,20 @@ impl<'c> WatchDesk<'c> {
     }
 
     /// Reads what receivers have handed over, at these milliseconds and this moment. A watch that nobody asks ends.
-    pub fn drain(&mut self, millis: u64, moment: Moment) {
+    pub fn drain(&mut self, alloc: Global, millis: u64, moment: Moment) {
         if self.is_over(millis) {
             self.end();
         }
         let dests = self.dests();
         if let (Some(open), Some(plan)) = (&mut self.open, &mut self.plan) {
-            let mut routes = Routes { plan, dests };
-            open.drain(self.places, &mut routes, ReadTime { millis, moment });
+            let mut reading = Reading {
+                alloc,
+                plan,
+                dests,
+                millis,
+                moment,
+            };
+            open.drain(self.places, &mut reading);
         }
     }
 

@@ -25,9 +25,7 @@ pub(crate) fn join(
     plan: &mut Plan,
     piece: &FoundPiece,
     offers: &[NotedOffer],
-) -> Result<Option<SentPiece>, NoMemory>
-    ensures { plan.new ≡ plan.old }
-{
+) -> Result<Option<SentPiece>, NoMemory> {
     let mut sent = Vec::new(alloc);
     let mut count: usize = 0;
     for found in piece.found.as_slice() {

@@ -23,6 +23,7 @@ mod name_sketch;
 mod names_watch;
 mod open_watch;
 mod place;
+mod reading;
 mod shown;
 mod tap;
 mod watched_door;

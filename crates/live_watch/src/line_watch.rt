@@ -1,13 +1,13 @@
 //! A watch of datapoints.
 
-use crate::batch::{BatchPiece, NotedOffer};
+use crate::batch::SeenPiece;
 use crate::found::FoundPiece;
 use crate::joined::{SentPiece, join};
+use crate::reading::Reading;
 use crate::shown::Shown;
-use conf_text::Dest;
 use patterns::Pattern;
 use relay_base::NoMemory;
-use router::{Plan, Sent};
+use router::Sent;
 use std::alloc::Global;
 
 /// How many datapoints are shown in a second at most.
@@ -63,23 +63,22 @@ impl LineWatch {
         }
     }
 
-    /// Takes a piece with these datapoints and offers, at these milliseconds. A piece whose offers are not those that the plan
-    /// makes is unread.
+    /// Takes a piece with these datapoints. One whose offers are not those that the plan makes is unread.
     pub(crate) fn take(
         &mut self,
-        alloc: Global,
-        plan: &mut Plan,
-        dests: &[Dest],
-        piece: &BatchPiece,
+        piece: SeenPiece<'_>,
         found: &FoundPiece,
-        offers: &[NotedOffer],
-        millis: u64,
+        reading: &mut Reading<'_>,
     ) -> Result<(), NoMemory> {
-        let Some(joined) = join(alloc, plan, found, offers)? else {
+        if !piece.is_whole {
             self.note_unread();
             return Ok(());
-        };
-        self.show_all(alloc, dests, piece, found, offers, &joined, millis);
+        }
+        let joined = join(reading.alloc, &mut *reading.plan, found, piece.offers)?;
+        match &joined {
+            Some(joined) => self.show_all(piece, found, joined, reading),
+            None => self.note_unread(),
+        }
         drop(joined);
         Ok(())
     }
@@ -89,16 +88,15 @@ impl LineWatch {
         self.counts.unread = self.counts.unread.saturating_add(1);
     }
 
+    /// Shows those datapoints of a piece that are wanted.
     fn show_all(
         &mut self,
-        alloc: Global,
-        dests: &[Dest],
-        piece: &BatchPiece,
+        piece: SeenPiece<'_>,
         found: &FoundPiece,
-        offers: &[NotedOffer],
         joined: &SentPiece,
-        millis: u64,
+        reading: &Reading<'_>,
     ) {
+        let offers = piece.offers;
         let (_, mut rest) = offers.split_at(joined.before.min(offers.len()));
         for (one, sent) in found.found.as_slice().iter().zip(joined.sent.as_slice()) {
             let (own, others) = rest.split_at(sent.dests.len().min(rest.len()));
@@ -112,7 +110,7 @@ impl LineWatch {
                 offers: own,
             };
             if self.wants(&shown, sent) {
-                self.show(alloc, dests, &shown, millis);
+                self.show(&shown, reading);
             }
         }
     }
@@ -133,11 +131,11 @@ impl LineWatch {
         }
     }
 
-    /// Shows a datapoint, at these milliseconds, unless there are too many or it is out of memory.
-    fn show(&mut self, alloc: Global, dests: &[Dest], shown: &Shown<'_>, millis: u64) {
+    /// Shows a datapoint, unless there are too many or it is out of memory.
+    fn show(&mut self, shown: &Shown<'_>, reading: &Reading<'_>) {
         self.counts.wanted = self.counts.wanted.saturating_add(1);
-        if millis.saturating_sub(self.second) >= 1_000 {
-            self.second = millis;
+        if reading.millis.saturating_sub(self.second) >= 1_000 {
+            self.second = reading.millis;
             self.in_second = 0;
         }
         if self.in_second >= MOST_A_SECOND || self.text.len() >= MOST_BYTES {
@@ -145,14 +143,15 @@ impl LineWatch {
             return;
         }
         self.in_second = self.in_second.saturating_add(1);
-        match self.push(alloc, dests, shown) {
+        match self.push(shown, reading) {
             Ok(()) => self.lines = self.lines.saturating_add(1),
             Err(_) => self.counts.more = self.counts.more.saturating_add(1),
         }
     }
 
     /// Adds the line of a datapoint, or its object. If out of memory, it adds nothing.
-    fn push(&mut self, alloc: Global, dests: &[Dest], shown: &Shown<'_>) -> Result<(), NoMemory> {
+    fn push(&mut self, shown: &Shown<'_>, reading: &Reading<'_>) -> Result<(), NoMemory> {
+        let (alloc, dests) = (reading.alloc, reading.dests);
         let mut line = String::new(alloc);
         let pushed = if self.is_json {
             shown.push_object(alloc, dests, &mut line)

@@ -1,15 +1,12 @@
 //! A watch that is open.
 
-use crate::batch::{Batch, BatchPiece, NotedOffer};
+use crate::batch::{Batch, SeenPiece};
 use crate::connection_shadow::ConnectionShadows;
-use crate::found::FoundPiece;
 use crate::line_watch::LineWatch;
 use crate::names_watch::NamesWatch;
 use crate::place::{Missed, WatchPlaces};
-use conf_text::Dest;
-use line_text::Moment;
+use crate::reading::Reading;
 use relay_base::{NoMemory, add};
-use router::Plan;
 use std::alloc::Global;
 use std::fmt::Write as _;
 
@@ -33,20 +30,6 @@ pub(crate) enum Watched {
 struct WatchedReceiver {
     shadows: ConnectionShadows,
     spare: Vec<Batch>,
-}
-
-/// When something is read: the milliseconds of the run, and the moment of the clock.
-#[derive(Clone, Copy)]
-pub(crate) struct ReadTime {
-    pub(crate) millis: u64,
-    pub(crate) moment: Moment,
-}
-
-/// What datapoints are joined with their offers by.
-#[derive(Drop)]
-pub(crate) struct Routes<'r> {
-    pub(crate) plan: &'r mut Plan,
-    pub(crate) dests: &'r [Dest],
 }
 
 /// A watch that is open, under its number. It ends by itself once nobody has asked for three seconds.
@@ -122,9 +105,9 @@ impl OpenWatch {
     }
 
     /// Reads what receivers have handed over. If out of memory, some of it is unread.
-    pub(crate) fn drain(&mut self, places: &WatchPlaces, routes: &mut Routes<'_>, time: ReadTime) {
+    pub(crate) fn drain(&mut self, places: &WatchPlaces, reading: &mut Reading<'_>) {
         let OpenWatch {
-            alloc,
+            alloc: _,
             number,
             watched,
             receivers,
@@ -139,14 +122,7 @@ impl OpenWatch {
                 continue;
             }
             receiver.lend(places, place);
-            read_batch(
-                *alloc,
-                &mut *watched,
-                &mut *receiver,
-                &batch,
-                &mut *routes,
-                time,
-            );
+            read_batch(&mut *watched, &mut receiver.shadows, &batch, &mut *reading);
             receiver.keep(batch);
         }
         self.lend(places);
@@ -198,12 +174,10 @@ impl WatchedReceiver {
 
 /// Reads a batch of a receiver.
 fn read_batch(
-    alloc: Global,
     watched: &mut Watched,
-    receiver: &mut WatchedReceiver,
+    shadows: &mut ConnectionShadows,
     batch: &Batch,
-    routes: &mut Routes<'_>,
-    time: ReadTime,
+    reading: &mut Reading<'_>,
 ) {
     let (mut bytes, mut offers) = (batch.bytes(), batch.offers());
     for piece in batch.pieces() {
@@ -211,65 +185,32 @@ fn read_batch(
         let (own_offers, other_offers) = offers.split_at(piece.offers.min(offers.len()));
         bytes = other_bytes;
         offers = other_offers;
-        let read = read_piece(
-            alloc,
-            &mut *watched,
-            &mut receiver.shadows,
-            piece,
-            own_bytes,
-            own_offers,
-            &mut *routes,
-            time,
-        );
-        if read.is_err() {
+        let seen = SeenPiece {
+            head: piece.head,
+            bytes: own_bytes,
+            offers: own_offers,
+            is_whole: piece.is_whole,
+        };
+        if read_piece(&mut *watched, &mut *shadows, seen, &mut *reading).is_err() {
             note_unread(&mut *watched);
         }
     }
 }
 
-/// Reads a piece with these bytes and offers.
+/// Reads a piece.
 fn read_piece(
-    alloc: Global,
     watched: &mut Watched,
     shadows: &mut ConnectionShadows,
-    piece: &BatchPiece,
-    bytes: &[u8],
-    offers: &[NotedOffer],
-    routes: &mut Routes<'_>,
-    time: ReadTime,
+    piece: SeenPiece<'_>,
+    reading: &mut Reading<'_>,
 ) -> Result<(), NoMemory> {
-    let found = shadows.read(piece, bytes, time.moment)?;
+    let found = shadows.read(piece, reading.moment)?;
     let taken = match watched {
         Watched::Names(watch) => watch.take(&found),
-        Watched::Lines(watch) => take_lines(alloc, watch, piece, &found, offers, routes, time),
+        Watched::Lines(watch) => watch.take(piece, &found, reading),
     };
     drop(found);
     taken
-}
-
-/// Has a watch of datapoints take a piece, if all of its offers are known.
-fn take_lines(
-    alloc: Global,
-    watch: &mut LineWatch,
-    piece: &BatchPiece,
-    found: &FoundPiece,
-    offers: &[NotedOffer],
-    routes: &mut Routes<'_>,
-    time: ReadTime,
-) -> Result<(), NoMemory> {
-    if !piece.is_whole {
-        watch.note_unread();
-        return Ok(());
-    }
-    watch.take(
-        alloc,
-        &mut *routes.plan,
-        routes.dests,
-        piece,
-        found,
-        offers,
-        time.millis,
-    )
 }
 
 /// The datapoints of a piece are not known.

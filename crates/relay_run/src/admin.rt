@@ -236,7 +236,7 @@ fn answer_with<B: Set, R: Wait + Clock + Net + SpoolDisk + Threads, F: ReloadSou
     for _ in rt.forever() {
         let millis = times.millis();
         say_refusals(rt, alloc, relay, ports, millis);
-        watched.desk.drain(millis, times.moment());
+        watched.desk.drain(alloc, millis, times.moment());
         let pause = pause_of(reading, watched.desk.is_watching());
         if ports.admin.take_turn(rt, alloc, watched, millis, pause) {
             if let Some(begun) = reading {

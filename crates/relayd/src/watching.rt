@@ -13,6 +13,7 @@ use relay_base::{utf8_text, whole_number_up_to};
 use relay_files::Status;
 use std::alloc::Global;
 use std::io::Write;
+use std::rt::Clock;
 use std::sync::Wait;
 use std::time::{Duration, Instant};
 
@@ -59,7 +60,7 @@ enum Ended {
 }
 
 /// Shows what passes through a relay, until it was for long enough, or enough.
-pub fn run_watch<R: Wait>(
+pub fn run_watch<R: Wait + Clock>(
     rt: &HostRuntime,
     waits: &R,
     alloc: Global,
@@ -107,7 +108,7 @@ fn say_refused(rt: &HostRuntime, why: String) -> Status {
     }
 }
 
-impl<R: Wait> WatchClient<'_, R> {
+impl<R: Wait + Clock> WatchClient<'_, R> {
     /// Opens a watch and asks it again and again, until it ends.
     fn go_on(&mut self) -> Ended {
         let waits = self.waits;
