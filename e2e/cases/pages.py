@@ -6,7 +6,7 @@ import re
 import shutil
 import subprocess
 
-from fixtures import harness, links, waits
+from fixtures import harness, links, waits, walks
 from fixtures.pages import PageSuite
 from fixtures.program import TOP
 
@@ -162,6 +162,12 @@ class UpToDate(harness.Suite):
         self.assertGreater(len(named), 40)
         named -= {crate for row in text_of("crates.txt").splitlines() for crate in re.findall(r"\w+", row)}
         self.assertEqual(sorted(named - defined), [])
+
+    def test_steps_of_walks(self):
+        """Where ARCHITECTURE has an arrow from one function to another, the one calls the other."""
+        wrong, steps = walks.untrue(text_of(os.path.join("docs", "ARCHITECTURE.md")))
+        self.assertEqual(wrong, [])
+        self.assertGreater(steps, 60)
 
     def test_synopses_of_pages(self):
         known, seen = options(), 0

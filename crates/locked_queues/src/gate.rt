@@ -25,7 +25,7 @@ pub trait Gate {
     /// Is called inside the lock of the destination's queue, before the step.
     fn at(&self, point: GatePoint);
 
-    /// Is called under no lock, before offers to a destination whose queue is at least half full, and not full, although its
+    /// Is called under no lock, before offers to a destination whose queue is at least a quarter full, not full, although its
     /// last take had left nothing: its sender may only wait for a processor.
     fn give_way(&self, dest: DestId);
 }

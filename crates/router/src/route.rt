@@ -156,7 +156,11 @@ impl SentName {
     }
 
     /// What rewrite rules make of a name.
-    pub(crate) fn of(alloc: Global, rules: &mut RewriteRules, name: &Arc<Name>) -> Result<SentName, NoMemory>
+    pub(crate) fn of(
+        alloc: Global,
+        rules: &mut RewriteRules,
+        name: &Arc<Name>,
+    ) -> Result<SentName, NoMemory>
         ensures name { IfOk result (λ sent. sent_name (arc_value name.now) sent
             ≡ name_after rules.old (arc_value name.now)) }
         ensures emptied { IfOk result (λ sent. is_emptied_name sent
