@@ -28,9 +28,13 @@ abbrev pub opened_or : Option (List ℕ) → Option WatchEnd → Option WatchEnd
 opened_or (Some rest) other = Some (Opened rest)
 opened_or None other = other
 
+-- what an answer says of what was gathered, or why no watch is opened, if it does
+abbrev pub gathered_in : List ℕ → Option WatchEnd
+gathered_in answer =
+    gathered_or (behind (codes "watched ") answer) (refused_by (behind (codes "refused ") answer))
+
 -- what an answer says, if it is one
 abbrev pub watch_end : List ℕ → Option WatchEnd
 watch_end answer =
     if bytes_eq answer (codes "over\n") then Some Over
-    else opened_or (behind (codes "watching ") answer)
-    (gathered_or (behind (codes "watched ") answer) (refused_by (behind (codes "refused ") answer)))
+    else opened_or (behind (codes "watching ") answer) (gathered_in answer)

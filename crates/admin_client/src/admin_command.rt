@@ -1,11 +1,10 @@
 //! The commands of the admin port, and the answers that are always the same.
 
-ghost use Rattle.std.specs.Prelude.{◌≡◌, ◌<◌, ◌≤◌, None, Some, length, option_map, MatchOption};
+ghost use Rattle.std.specs.Prelude.{◌≡◌, ◌<◌, ◌≤◌, None, Some, length, MatchOption};
 ghost use Rattle.std.specs.List.{position};
 ghost use Rattle.std.specs.Io.BufRead.{strip_last};
 ghost use Rattle.relay_base.specs.Ascii.{carriage_return};
-ghost use Rattle.admin_client.specs.AdminCommand.{is_newline, first_line, command_text, command_of, command_in, short_enough, routed_by, routed_name, watched_by, asked_of_watch};
-ghost use Rattle.admin_client.specs.ReloadAnswer.{behind};
+ghost use Rattle.admin_client.specs.AdminCommand.{is_newline, first_line, command_text, command_of, command_in, routed_by, routed_name, watched_by, asked_of_watch};
 ghost use Rattle.admin_client.specs.AdminKey.{words_of};
 
 use crate::reload_answer::behind;
@@ -103,7 +102,11 @@ fn routed_by(text: &[u8]) -> Option<&[u8]>
     ensures { MatchOption result (routed_by text.now ≡ None)
         (λ name. routed_by text.now ≡ Some name.now) }
 {
-    short_enough(behind(ROUTE, text))
+    let name = behind(ROUTE, text)?;
+    if name.len() > LONGEST_ROUTED {
+        return None;
+    }
+    Some(name)
 }
 
 /// What a text asks of a watch, if it does and that is not too long.
@@ -111,19 +114,11 @@ fn watched_by(text: &[u8]) -> Option<&[u8]>
     ensures { MatchOption result (watched_by text.now ≡ None)
         (λ asked. watched_by text.now ≡ Some asked.now) }
 {
-    short_enough(behind(WATCH, text))
-}
-
-/// A text, if there is one and it is not too long to be asked for.
-fn short_enough(text: Option<&[u8]>) -> Option<&[u8]>
-    ensures { MatchOption result (short_enough (option_map (λ t. t.now) text.entry) ≡ None)
-        (λ short. short_enough (option_map (λ t. t.now) text.entry) ≡ Some short.now) }
-{
-    let text = text?;
-    if text.len() > LONGEST_ROUTED {
+    let asked = behind(WATCH, text)?;
+    if asked.len() > LONGEST_ROUTED {
         return None;
     }
-    Some(text)
+    Some(asked)
 }
 
 /// The name of which was asked where it goes, if that was sent.

@@ -1,8 +1,7 @@
 //! What a relay answers to `watch`.
 
 ghost use Rattle.std.specs.Prelude.{◌≡◌, None, Some, MatchOption};
-ghost use Rattle.admin_client.specs.WatchAnswer.{watch_end, gathered_or, refused_by};
-ghost use Rattle.admin_client.specs.ReloadAnswer.{behind};
+ghost use Rattle.admin_client.specs.WatchAnswer.{watch_end, gathered_in};
 ghost use Rattle.admin_client.specs.WatchText.{watch_said};
 
 use crate::reload_answer::behind;
@@ -48,10 +47,8 @@ pub fn watch_answer_in(answer: &[u8]) -> Option<WatchAnswer<'_>>
 
 /// What an answer says of what was gathered, or why no watch is opened, if it does.
 fn gathered_or_refused(answer: &[u8]) -> Option<WatchAnswer<'_>>
-    ensures { MatchOption result
-        (gathered_or (behind WATCHED.now answer.now) (refused_by (behind WATCH_REFUSED.now answer.now)) ≡ None)
-        (λ said. gathered_or (behind WATCHED.now answer.now) (refused_by (behind WATCH_REFUSED.now answer.now))
-        ≡ Some (watch_said said)) }
+    ensures { MatchOption result (gathered_in answer.now ≡ None)
+        (λ said. gathered_in answer.now ≡ Some (watch_said said)) }
 {
     match behind(WATCHED, answer) {
         Some(rest) => Some(WatchAnswer::Gathered(rest)),

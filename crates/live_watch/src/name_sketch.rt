@@ -137,7 +137,7 @@ impl NameSketch {
         } = self;
         drop(places);
         let mut counters = counters;
-        counters.sort_by_key(|counter| u64::MAX - counter.count)?;
+        counters.sort_by_key(|counter| u64::MAX.wrapping_sub(counter.count))?;
         Ok(counters)
     }
 }

@@ -58,18 +58,12 @@ struct ReportSource<'x, B: Set, F> {
 impl<'x, B: Set, F> ReportSource<'x, B, F> {
     /// The queues of a relay, its files and its routes. A run that ends opens no watch.
     fn new(relay: &'x Relay<B>, files: &'x F, is_ending: bool) -> ReportSource<'x, B, F> {
-        let configuration = &relay.configuration;
-        let desk = if is_ending {
-            WatchDesk::closed(configuration, &relay.watches)
-        } else {
-            WatchDesk::new(configuration, &relay.watches, relay.shape.receivers)
-        };
         ReportSource {
             queues: &relay.queues,
             noted: relay.noted(),
             files,
             routes: LiveRoutes::new(&relay.configuration),
-            desk,
+            desk: desk_of(relay, is_ending),
         }
     }
 
@@ -87,6 +81,16 @@ impl<'x, B: Set, F> ReportSource<'x, B, F> {
             add(&mut lines, line)?;
         }
         Ok(lines)
+    }
+}
+
+/// Who opens the watches of a relay. A run that ends opens none.
+fn desk_of<B: Set>(relay: &Relay<B>, is_ending: bool) -> WatchDesk<'_> {
+    let configuration = &relay.configuration;
+    if is_ending {
+        WatchDesk::closed(configuration, &relay.watches)
+    } else {
+        WatchDesk::new(configuration, &relay.watches, relay.shape.receivers)
     }
 }
 
