@@ -110,10 +110,8 @@ impl<'c> WatchDesk<'c> {
         let mut text = String::new(alloc);
         let pushed = match watch_request_in(asked) {
             None => Ok(()),
-            Some(WatchRequest::Next(number)) => self.push_gathered(
-                number, false, millis, &mut text,
-            ),
-            Some(WatchRequest::End(number)) => self.push_gathered(number, true, millis, &mut text),
+            Some(WatchRequest::Next(number)) => self.push_gathered(number, false, &mut text),
+            Some(WatchRequest::End(number)) => self.push_gathered(number, true, &mut text),
             Some(WatchRequest::Lines(wanted)) => {
                 let opened = self.open_lines(alloc, wanted, millis);
                 push_opened(opened, &mut text)
@@ -170,12 +168,11 @@ impl<'c> WatchDesk<'c> {
         &mut self,
         number: u64,
         is_end: bool,
-        millis: u64,
         text: &mut String,
     ) -> Result<(), NoMemory> {
         let gathered = match &mut self.open {
             Some(open) if open.number() == number => {
-                open.note_asked(millis);
+                open.note_asked();
                 open.push_gathered(self.places, is_end, text)
             }
             _ => return Ok(text.push_str("over\n")?),
@@ -244,8 +241,8 @@ impl<'c> WatchDesk<'c> {
     }
 
     /// Whether the watch that is open is over at these milliseconds.
-    fn is_over(&self, millis: u64) -> bool {
-        match &self.open {
+    fn is_over(&mut self, millis: u64) -> bool {
+        match &mut self.open {
             Some(open) => open.is_over(millis),
             None => false,
         }

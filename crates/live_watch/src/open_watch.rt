@@ -16,6 +16,9 @@ const BATCHES: usize = 3;
 /// For how many milliseconds a watch goes on that nobody asks.
 const MOST_SILENCE_MS: u64 = 3_000;
 
+/// How many milliseconds of these pass from one look to the next at most: who asks is not heard while the thread is held up.
+const MOST_HEARD_MS: u64 = 100;
+
 /// What is watched.
 #[derive(Drop)]
 pub(crate) enum Watched {
@@ -39,7 +42,9 @@ pub(crate) struct OpenWatch {
     number: u64,
     watched: Watched,
     receivers: Vec<WatchedReceiver>,
-    asked: u64,
+    // For how many milliseconds nobody has asked, and when that was looked at last.
+    silence: u64,
+    looked: u64,
 }
 
 impl OpenWatch {
@@ -56,7 +61,8 @@ impl OpenWatch {
             number,
             watched,
             receivers: Vec::new(alloc),
-            asked: millis,
+            silence: 0,
+            looked: millis,
         };
         match open.add_receivers(receivers) {
             Ok(()) => Ok(open),
@@ -87,14 +93,17 @@ impl OpenWatch {
         self.number
     }
 
-    /// Somebody asked, at these milliseconds.
-    pub(crate) fn note_asked(&mut self, millis: u64) {
-        self.asked = millis;
+    /// Somebody asked.
+    pub(crate) fn note_asked(&mut self) {
+        self.silence = 0;
     }
 
-    /// Whether nobody has asked for too long, at these milliseconds.
-    pub(crate) fn is_over(&self, millis: u64) -> bool {
-        millis.saturating_sub(self.asked) >= MOST_SILENCE_MS
+    /// Looks whether nobody has asked for too long, at these milliseconds.
+    pub(crate) fn is_over(&mut self, millis: u64) -> bool {
+        let passed = millis.saturating_sub(self.looked);
+        self.looked = millis;
+        self.silence = self.silence.saturating_add(passed.min(MOST_HEARD_MS));
+        self.silence >= MOST_SILENCE_MS
     }
 
     /// Puts empty batches where receivers take them.
@@ -111,7 +120,8 @@ impl OpenWatch {
             number,
             watched,
             receivers,
-            asked: _,
+            silence: _,
+            looked: _,
         } = self;
         for (place, receiver) in receivers.as_mut_slice().iter_mut().enumerate() {
             let Some(batch) = places.of(place).take() else {

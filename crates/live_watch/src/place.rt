@@ -2,6 +2,7 @@
 
 use crate::batch::Batch;
 use relay_base::MOST_RECEIVERS;
+use std::mem;
 use std::sync::Mutex;
 use std::sync::atomic::{AtomicBool, AtomicU64, Ordering};
 
@@ -110,29 +111,25 @@ impl WatchPlace {
         }
     }
 
-    /// Hands a batch of the watch of this number over, if the place for that is free, and takes an empty one into the hand, if
-    /// there is one. One of another watch is freed.
+    /// Exchanges the batch in the hand, of the watch of this number, for an empty one: it is handed over, if the place for that is
+    /// free and there is an empty one. Without a batch in the hand, it takes an empty one. One of another watch is freed.
     pub(crate) fn exchange(&self, watch: u64, hand: &mut Option<Batch>) {
-        if hand.is_some() && self.is_full.load(Ordering::SeqCst) {
+        if !is_of(hand, watch) {
+            *hand = None;
+        } else if is_unused(hand) || self.is_full.load(Ordering::SeqCst) {
             return;
         }
         let Some(mut slots) = self.slots.try_lock() else {
             return;
         };
         let Slots { empty, full } = &mut *slots;
-        if let Some(batch) = hand.take() {
-            if batch.watch() == watch && !batch.is_empty() {
-                *full = Some(batch);
-                self.is_full.store(true, Ordering::SeqCst);
-            } else if batch.watch() == watch {
-                *hand = Some(batch);
-                return;
-            }
+        if !is_of(empty, watch) {
+            return;
         }
-        if let Some(batch) = empty.take() {
-            if batch.watch() == watch {
-                *hand = Some(batch);
-            }
+        let handed = mem::replace(hand, empty.take());
+        if handed.is_some() {
+            *full = handed;
+            self.is_full.store(true, Ordering::SeqCst);
         }
     }
 
@@ -159,5 +156,21 @@ impl WatchPlace {
                 None
             }
         }
+    }
+}
+
+/// Whether there is a batch of the watch of this number.
+fn is_of(batch: &Option<Batch>, watch: u64) -> bool {
+    match batch {
+        Some(batch) => batch.watch() == watch,
+        None => false,
+    }
+}
+
+/// Whether there is a batch without a piece.
+fn is_unused(batch: &Option<Batch>) -> bool {
+    match batch {
+        Some(batch) => batch.is_empty(),
+        None => false,
     }
 }
