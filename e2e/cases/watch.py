@@ -325,10 +325,9 @@ class Asked(Watches):
             lines, counts = [], []
 
             def ask():
-                while not done.is_set():
+                while not done.wait(0.1):
                     counts[:], more = self.gathered(relay, number)
                     lines.extend(more)
-                    time.sleep(0.1)
 
             asking = threading.Thread(target=ask)
             asking.start()
