@@ -319,6 +319,7 @@ class Asked(Watches):
     def test_full_load(self):
         """All datapoints arrive while one watches, and each is shown, counted or missed."""
         stores = self.stores(2)
+        text = b"".join(b"n.%d %d 1700000000\n" % (place % NAMES, place) for place in range(LOAD))
         with self.watched(dests=[f"127.0.0.1:{store.port}" for store in stores], MAX_QUEUE_SIZE="1000000") as relay:
             number = self.opened(relay, b"lines find \\.7$")
             done = threading.Event()
@@ -331,7 +332,6 @@ class Asked(Watches):
 
             asking = threading.Thread(target=ask)
             asking.start()
-            text = b"".join(b"n.%d %d 1700000000\n" % (place % NAMES, place) for place in range(LOAD))
             try:
                 relay.lines(text)
                 self.wait_for(lambda: relay.totals()["taken"] == LOAD, "all were taken")
