@@ -30,7 +30,7 @@ impl<'t, 'p, D> WatchedDoor<'t, 'p, D> {
 
     /// The door behind it.
     pub fn into_door(self) -> D
-        ensures { result ≡ self.door }
+        ensures { result ≡ self.entry.door }
     {
         self.door
     }

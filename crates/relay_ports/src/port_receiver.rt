@@ -89,9 +89,9 @@ impl PortReceiver<'_> {
 
 /// What a receiver leaves, with the door that is behind the one whose offers were noted.
 fn without_watch<D: Door>(left: ReceiverRecord<WatchedDoor<'_, '_, D>>) -> ReceiverRecord<D>
-    ensures door { result.door ≡ left.door.door }
-    ensures log { result.log ≡ left.log }
-    ensures fault { result.fault ≡ left.fault }
+    ensures door { result.door ≡ left.entry.door.door }
+    ensures log { result.log ≡ left.entry.log }
+    ensures fault { result.fault ≡ left.entry.fault }
 {
     let ReceiverRecord { door, log, fault } = left;
     ReceiverRecord {
