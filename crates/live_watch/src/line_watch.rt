@@ -125,7 +125,8 @@ impl LineWatch {
         match &mut self.pattern {
             None => true,
             Some(pattern) => {
-                let name = shown.point.name.text();
+                let point = shown.point;
+                let name = point.name.text();
                 pattern.is_found(name) || is_found_in_new(pattern, name, shown.rewritten)
             }
         }
