@@ -32,7 +32,7 @@ def scene_of(text, stores, connections, stalled):
     return scene
 
 
-def relays(program, beside):
+def relays(beside):
     """The relays that are measured in turn."""
     yield Relayd
     if beside:
@@ -69,7 +69,7 @@ def main():
     for row in SCENES:
         scene = scene_of(*row)
         print(f"\n{scene.text}", flush=True)
-        kinds = list(relays(told.relayd, told.beside))
+        kinds = list(relays(told.beside))
         rows = {kind.name: [] for kind in kinds}
         for _ in range(told.rounds):
             for kind in kinds:

@@ -3,9 +3,9 @@
 
     changed_values.py [--relayd PATH] [--growth_rows PATH] [TABLE ..]
 
-A table is a file of `e2e/fixtures/`; a value is a text, some bytes or a number that stands in it. For each one there is a
-copy of `e2e/` in which it is another, and the cases that read the table run there. Each change that none of them notices is
-printed; the status is 0 if there is none. All tables take about half an hour of four processors.
+A table is a file of `e2e/fixtures/`; its values are the texts, bytes and numbers in it. For each value it copies `e2e/`,
+changes the value there, and runs the cases that read the table. It prints each change that no case notices; the status is 0
+if there is none. All tables take about half an hour of four processors.
 """
 
 import argparse
