@@ -4,7 +4,7 @@
     gate_times.py [COMMAND ..]    without COMMAND: bash .ci/run
 
 The prover's processes are looked at twice a second, so what a process took after the last look is missing. The table
-goes to standard error, as docs/GATE.md has it, once the command has ended; the status is the command's.
+goes to standard error, as gate_times.txt has it, once the command has ended; the status is the command's.
 """
 
 import os

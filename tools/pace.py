@@ -1,4 +1,4 @@
-"""How long crates take, by the table of docs/GATE.md, and how far a run is."""
+"""How long crates take, by the table of gate_times.txt, and how far a run is."""
 
 import heapq
 import os
@@ -14,7 +14,7 @@ OVER_KEPT = 6  # how often faster a crate is proved over what an earlier run kep
 
 def costs(names):
     """Minutes of processor for the proof of each crate, or of its tests, as the table has them."""
-    with open(os.path.join(TOP, "docs", "GATE.md"), encoding="utf-8") as file:
+    with open(os.path.join(TOP, "tools", "gate_times.txt"), encoding="utf-8") as file:
         found = re.findall(r"^\| `(\w+)` \| ([\d.]*) \| ([\d.]*) \|", file.read(), re.M)
     table = {name: float(proof or tests) for name, proof, tests in found}
     return {name: table.get(name, USUAL) for name in names}

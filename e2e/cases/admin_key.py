@@ -44,6 +44,7 @@ class AdminKey(Reloads):
     def ends(self, relay):
         """The relay stops, and its log has been read."""
         self.assertEqual(self.asked(relay, "stop", "--wait"), Ran(0, b"stopping\n", b""))
+        relay.child.wait(LIMIT)
         relay.log.thread.join(LIMIT)
 
     def asked(self, relay, *words, key="key"):

@@ -12,6 +12,7 @@ from fixtures.program import TOP
 SHELLS = {"bash": completed.by_bash, "fish": completed.by_fish, "zsh": completed.by_zsh}
 COMMAND = re.compile(r"^  ([a-z]+)  ", re.MULTILINE)
 OPTION = re.compile(r"^ +(?:(-\w), )?(--[a-z]+(?:-[a-z]+)*)", re.MULTILINE)
+STATUS = re.compile(r"(?:^|; )(\d) ")  # of a list such as `0 success; 1 a fault`
 
 
 def shown(*words):
@@ -122,12 +123,22 @@ class ManPage(harness.Suite):
                 self.assertRegex(self.text, rf"(?m)^\.B {command}$")
 
     def test_each_command_has_its_statuses(self):
-        """In the table, as in that of docs/FAULTS.md."""
-        found = re.findall(r"(?m)^(\w+)\tT\{$", section(self.text, "EXIT STATUS"))
-        self.assertEqual(sorted(found), sorted(commands()))
+        """In the table, as in that of docs/FAULTS.md, and in the long help of the command."""
+        found = re.findall(r"(?m)^(\w+)\tT\{\n((?:(?!T\}).*\n)+)T\}$", section(self.text, "EXIT STATUS"))
+        self.assertEqual(sorted(command for command, _ in found), sorted(commands()))
         with open(os.path.join(TOP, "docs", "FAULTS.md"), encoding="utf-8") as file:
             table = re.search(r"(?ms)^\| Command \| 0 .*?\n\n", file.read())[0]
-        self.assertEqual(re.findall(r"(?m)^\| `([\w-]+)`", table), [*found, "relayd-supervised"])
+        rows = re.findall(r"(?m)^\| `([\w-]+)` \| (.*) \|$", table)
+        self.assertEqual([command for command, _ in rows], [*(command for command, _ in found), "relayd-supervised"])
+        shown = {command: {status for status, cell in zip("013", row.split("|")) if cell.strip()} for command, row in rows}
+        for command, words in found:
+            with self.subTest():
+                self.assertEqual(set(STATUS.findall(words)), shown[command], command)
+                if command != "help":
+                    told = harness.run((command, "--help")).out.decode().split("Exit status: ")[1]
+                    helped = set(STATUS.findall(told.replace("\n", " ")))
+                    self.assertEqual(helped - {"3", "4"}, shown[command] - {"3"}, command)
+                    self.assertLessEqual(shown[command], helped, command)
 
     def test_each_option_has_its_commands(self):
         found = re.findall(r"(?m)^\.TP\n\.BI? (--[a-z]+(?:-[a-z]+)*).*\n\(([a-z, ]+)\)$", section(self.text, "OPTIONS"))

@@ -40,7 +40,7 @@ class Kept(harness.Suite):
         self.folder = folder.name
         self.asked = os.path.join(self.folder, "asked")
         shutil.copytree(os.path.join(TOP, "tools"), self.path("tools"), ignore=shutil.ignore_patterns("__pycache__"))
-        self.write("docs/GATE.md", "")
+        self.write("tools/gate_times.txt", "")
         self.write("HANDLES", "Handles allowed: none.\n")
         self.write("crates.txt", "".join(f"{name}: {below}\n" for name, below in CRATES.items()))
         for name in CRATES:

@@ -111,6 +111,7 @@ class LiveRoute(Reloads):
                 text = b"key %s\r\nroute %s%s" % (key.encode(), b"x" * MOST, more)
                 self.assertEqual(relay.command(text), answer, more)
             self.assertEqual(run(("stop", "--wait", "--admin", str(relay.admin), "--admin-key", path)).status, 0)
+            relay.child.wait(LIMIT)
             relay.log.thread.join(LIMIT)
 
     def test_no_relay(self):

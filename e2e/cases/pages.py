@@ -123,6 +123,10 @@ class UpToDate(harness.Suite):
         for page in links.pages():
             self.assertEqual([text for text in sentences(page) if AWAITED.search(text)], [], page)
 
+    def test_what_is_quoted_ends(self):
+        for page in links.pages():
+            self.assertEqual([line for line in links.text_lines(page) if line.count("`") % 2], [], page)
+
     def test_whoever_takes_an_option_is_named(self):
         known, seen = options(), 0
         for page in user_pages():

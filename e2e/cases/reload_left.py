@@ -1,14 +1,25 @@
 """What an ended run left for a store goes out in the next, before anything newer, with and without files."""
 
+import fcntl
 import os
+import pickle
 import socket
+import struct
+import termios
 import threading
 import time
 
-from fixtures import sockets
-from fixtures.harness import LIMIT
+from fixtures import networks, sockets
+from fixtures.harness import LIMIT, LONGEST_LINE
 from fixtures.reloading import FOREVER, LONG, Reloads, numbered, text_of
 from fixtures.stores import Store, free_ports
+
+SENT = "/proc/sys/net/ipv4/tcp_wmem"  # what the system holds of a connection that sends
+
+
+def waiting_at(stream):
+    """How many bytes of a connection wait to be read."""
+    return struct.unpack("i", fcntl.ioctl(stream, termios.FIONREAD, bytes(4)))[0]
 
 
 class Left(Reloads):
@@ -27,6 +38,31 @@ class Left(Reloads):
             self.wait_for(lambda: len(store.lines()) == len(LONG), "all lines have come")
             self.assertEqual(store.lines(), LONG)
             self.assertEqual(store.connections(), 1)
+            self.stops(relay)
+
+    def test_a_store_in_the_middle_of_a_line_that_is_too_long(self):
+        """That line is the last of its connection all the same: what comes behind it comes by the next one."""
+        networks.in_own_network(self.goes_on_in_a_long_line, 32768, 60999)
+
+    def goes_on_in_a_long_line(self):
+        """The store has a part of the line at the reload, since the system holds less than a line of it."""
+        with open(SENT, "w", encoding="ascii") as file:
+            file.write("4096 4096 4096")
+        store, = self.stores(1, reads=False, room=4096)
+        dests = [f"127.0.0.1:{store.port}"]
+        name = "x" * LONGEST_LINE
+        lines = [name.encode() + b" 1 1", *numbered(10)]
+        status, = free_ports(1)
+        with self.running(dests, options=("--status", str(status))) as relay:
+            relay.pickles(pickle.dumps([(name, (1, 1))], 2))
+            self.wait_for(lambda: store.open and waiting_at(store.open[0]) > 0, "the store has a part of the line")
+            self.reloads(relay, dests)
+            self.assertLess(self.status(relay, status)["destinations"][0]["written_bytes"], len(lines[0]))
+            relay.lines(text_of(lines[1:]))
+            self.wait_for(lambda: relay.totals()["kept"] == len(lines), "all lines are queued")
+            store.read_on()
+            self.wait_for(lambda: store.lines() == lines, "all lines have come")
+            self.assertEqual(store.connections(), 2)
             self.stops(relay)
 
     def test_a_store_that_comes_back(self):

@@ -5,8 +5,8 @@ printed.
 
 Some bars here are times, and how many datagrams or writes of a blind producer are lost is one too, since they come at
 intervals. A machine that gives the processor to others is no fault of the relay: relay and producers run at the highest
-priority, where that is allowed, and of three restarts in a row, and of some tries, the best counts. The longer form has
-harder bars, for a machine with nothing else to do.
+priority, where that is allowed, and of three restarts in a row, and of some tries, the best counts. The longer form is for a
+machine with nothing else to do: each restart that the machine did not hold up must hold each bar.
 
 What else is lost counts each time, but where the machine held up relay, producers or stores in that restart (`Trial.held_up`):
 then it is tried again.
@@ -44,7 +44,7 @@ LOOKS = 0.005          # seconds between two looks at what the system does
 KEPT = 0.01            # seconds without a processor that hold up a thread
 MOST_SHUT = 0.4        # seconds for which the port is refused, besides what the next relay takes to begin
 MOST_REFUSED = 0.1     # seconds for which it is refused in all, in the longer form
-MOST_DATAGRAMS = 30    # lost in a restart, besides those that were sent while the port was refused
+MOST_DATAGRAMS = 30    # lost in a restart; in the short form, besides those that were sent while the port was refused
 MOST_WRITES = 1        # of a blind producer that are lost in a restart
 MOST_HELD_UP = 3.0     # seconds that a stop takes where a store reads nothing
 MOST_SILENT = 0.2      # seconds that it takes where nobody sends and the stores are well
@@ -169,13 +169,20 @@ class Trial:
         """The restarts in which something of who watches was lost."""
         return {self.place(moment) for _, moment in self.lost[WATCHING]}
 
-    def held_up(self):
-        """The restarts in which relay, producers or stores had no processor for long during the stop, or that is not known."""
+    def held_up(self, until_next=False):
+        """The restarts in which relay, producers or stores had no processor for long during the stop, or until the next relay had
+        begun, or that is not known."""
         is_known = os.path.exists(SCHEDSTAT.format("self", os.getpid()))
         spans = [(moment - seconds, moment) for moment, seconds in self.seen.waited if seconds >= KEPT]
         spans += self.found["held_up"]
         return {place for place, it in enumerate(self.restarts) if not is_known or "not waited for" in it.said
-                or any(first <= it.began + it.took and it.began <= last for first, last in spans)}
+                or any(first <= it.began + it.took + until_next * it.begins and it.began <= last for first, last in spans)}
+
+    def missing(self):
+        """The restarts that miss a bar of the longer form."""
+        each = zip(self.refused, self.datagrams, self.writes())
+        return {place for place, (refused, datagrams, writes) in enumerate(each)
+                if refused > MOST_REFUSED or datagrams > MOST_DATAGRAMS or writes > MOST_WRITES}
 
     def show(self, name):
         """Prints what the restarts took and lost."""
@@ -324,11 +331,20 @@ class Restarted(Field):
             trial = self.trial(self.relay(stores), stores, count, **how)
             if has_room():
                 self.assertEqual(sum(trial.dropped), 0, "datagrams that the system dropped")
-            is_soon = best(trial.refused) <= MOST_REFUSED if Settings.longer else best(trial.shut()) <= MOST_SHUT
-            if self.keeps(trial) and best(trial.beyond()) <= MOST_DATAGRAMS and is_soon:
+            if self.keeps(trial) and (self.holds_each(trial) if Settings.longer else self.holds_best(trial)):
                 return
         self.fail(f"at the last try lost {trial.lost[WATCHING]}, writes {trial.writes()}, datagrams {trial.datagrams}, "
                   f"refused {trial.refused}")
+
+    def holds_best(self, trial):
+        """Whether the best of three restarts in a row hold the bars of the short form."""
+        return best(trial.beyond()) <= MOST_DATAGRAMS and best(trial.shut()) <= MOST_SHUT
+
+    def holds_each(self, trial):
+        """Whether the machine held up less than half of the restarts; each of the others must hold each bar."""
+        held_up = trial.held_up(until_next=True)
+        self.assertLessEqual(trial.missing(), held_up, (trial.refused, trial.datagrams, trial.writes()))
+        return len(held_up) < len(trial.restarts) / 2
 
     def test_under_load(self):
         """Nothing of who watches is lost, and of the others one write."""

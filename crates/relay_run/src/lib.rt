@@ -2,7 +2,8 @@
 //!
 //! [`run`] reads the files of a configuration, listens, starts a thread for each receiver and each sender,
 //! answers the commands of its admin port until one is `stop`, joins the threads, and settles: it compares the
-//! queues' counts and histories with what the threads recorded, and reports the result in one line. Its file names its parts.
+//! queues' counts and histories with what the threads recorded, and reports the result in one line. A reload ends a run so that
+//! the next goes on with what it held. Its file names its parts.
 //!
 //! [`RelayRuntime`] is what a run needs of the system; its threads read the time from `mio_loops::SystemTimes`.
 //!

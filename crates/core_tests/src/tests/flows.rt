@@ -244,6 +244,6 @@ fn is_moved<R: FlowRuntime>(rt: &R, alloc: Global, flow: &Flow) -> bool {
 }
 
 #[test]
-fn threads_move_datapoints(rt: HostRuntime) {
+fn threads_move_points(rt: HostRuntime) {
     assert!(rt; all_are_moved(&rt, rt.alloc()));
 }
