@@ -121,11 +121,6 @@ fails-served begins a b (Err kind) fault fails (inl is) =
 fails-served begins a b served fault wrote (inr is) =
     inr (subst (λ (f : RelayFault). is_output_fault f ≡ true) (sym is) refl, Served-part begins a b served wrote)
 
--- of memory, once the opening was written
-pub fails-opened : (begins : List ℕ) (a b : Option (List ℕ)) (fault : RelayFault) → Appends a b begins → fault ≡ NoMemory → RunFails begins a b fault
-fails-opened begins a b fault opened is =
-    fails-early begins a b fault (inr (subst (λ (f : RelayFault). is_output_fault f ≡ true) (sym is) refl, part-of_written a b begins opened))
-
 -- ---- how a run ended
 
 module _ {A E : Type 0} where
@@ -148,14 +143,6 @@ module _ {L : Type 0} where
   pub stopped-weaker : (e : RunEnd L) (holds more : Status → Type 0) → ((status : Status) → holds status → more status) → IfStopped e holds → IfStopped e more
   stopped-weaker (end.Stopped status) holds more weaker is = weaker status is
   stopped-weaker (end.Followed next) holds more weaker is = tt
-
-  pub never-stopped : (e : RunEnd L) (more : Status → Type 0) → IfStopped e (λ status. ⊥) → IfStopped e more
-  never-stopped (end.Stopped status) more never = absurd never
-  never-stopped (end.Followed next) more never = tt
-
-  pub followed-weaker : (e : RunEnd L) (holds more : NextRun L → Type 0) → ((next : NextRun L) → holds next → more next) → IfFollowed e holds → IfFollowed e more
-  followed-weaker (end.Stopped status) holds more weaker is = tt
-  followed-weaker (end.Followed next) holds more weaker is = weaker next is
 
   pub never-followed : (e : RunEnd L) (more : NextRun L → Type 0) → IfFollowed e (λ next. ⊥) → IfFollowed e more
   never-followed (end.Stopped status) more never = tt

@@ -31,6 +31,7 @@ mod runtime;
 mod sender_job;
 mod sender_setup;
 mod shape;
+mod shared_parts;
 mod shortage;
 mod spool_folder;
 mod start;

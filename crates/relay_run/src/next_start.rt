@@ -3,10 +3,12 @@
 use crate::ended_run::EndedRun;
 use crate::inherited::Inherited;
 use crate::prepared_run::{KeptPlaces, NextPlan};
+use crate::relay::Relay;
 use crate::shape::shape_of;
 use crate::start::{Process, Start};
 use conf_text::Dest;
 use dest_queue::EarlierCounts;
+use locked_queues::Set;
 use log_lines::DestNotes;
 use relay_base::{DestId, NoMemory, add};
 use relay_ports::{FirstPorts, Ports};
@@ -17,8 +19,8 @@ use std::fmt::Write as _;
 use std::mem;
 use store_lines::{DestSlots, GoneDests, LeftDest, PartingDest};
 
-/// The places of the destinations of a run that follows another one: empty lists with room for all. Once they are there,
-/// what is left needs no more memory.
+/// The places of the destinations of a run that follows another one: empty lists with room for all. They are there before that
+/// one ends: what it leaves needs no more memory.
 #[derive(Drop)]
 pub(crate) struct NewPlaces {
     slots: DestSlots,
@@ -31,20 +33,29 @@ pub(crate) struct NewPlaces {
     parting: Vec<Option<PartingDest>>,
 }
 
-/// The places of the destinations of the run that follows this one, at these milliseconds. The line of the log gets what is to be
-/// said of files. Refuses if out of memory; what is left is as it was then.
-pub(crate) fn places_after(
-    alloc: Global,
-    ended: &EndedRun,
-    prepared: &mut NextPlan,
-    process: &Process<'_>,
-    millis: u64,
-) -> Result<NewPlaces, NoMemory> {
-    let NextPlan { line, files, .. } = &mut *prepared;
-    line.push_str(files.news.as_str())?;
-    // Without memory for that the log lacks it.
-    let _said = say_drops(line, ended);
-    places_of(alloc, ended, prepared, process, millis)
+impl NewPlaces {
+    /// The places of the destinations of a run that follows this one, of which these are kept. Refuses if out of memory.
+    pub(crate) fn after<B: Set>(
+        alloc: Global,
+        relay: &Relay<B>,
+        places: &KeptPlaces,
+    ) -> Result<NewPlaces, NoMemory> {
+        let count = places.kept.len();
+        let parting = parting_of(alloc, relay, places)?;
+        Ok(NewPlaces {
+            slots: DestSlots::new(alloc, count)?,
+            dests: Vec::with_capacity(alloc, count)?,
+            earlier: Vec::with_capacity(alloc, count)?,
+            rests: Vec::with_capacity(alloc, count)?,
+            gone: GoneDests::with_room(alloc, parting.len())?,
+            parting,
+        })
+    }
+
+    /// Whether a destination may be gone: one is not kept.
+    pub(crate) fn may_be_gone(&self) -> bool {
+        self.parting.iter().any(|one| one.is_some())
+    }
 }
 
 /// Adds a line on each destination of the run that has ended of whose queue something found no room.
@@ -58,35 +69,44 @@ fn say_drops(line: &mut String, ended: &EndedRun) -> Result<(), NoMemory> {
     Ok(())
 }
 
-/// What a run begins with that follows this one, and has these places.
+/// What a run begins with that follows this one, at these milliseconds. It can do without the memory that it takes.
 pub(crate) fn start_after(
     alloc: Global,
     ended: &mut EndedRun,
     prepared: NextPlan,
-    places: NewPlaces,
     first: FirstPorts,
     server: Option<StatusServer>,
     logged: Vec<ReceiverLog>,
     process: &Process<'_>,
+    millis: u64,
 ) -> Start {
     let NextPlan {
         configuration,
         receivers,
         blank,
+        shared,
         places: KeptPlaces { kept, returned },
+        new_places,
         files,
-        line: news,
         ..
     } = prepared;
     let mut server = server;
     if let Some(server) = &mut server {
         server.keep_dests(alloc, kept.as_slice());
     }
-    let mut found = files.dests;
+    let mut news = files.news;
+    // Without memory for that the log lacks it.
+    let _said = say_drops(&mut news, ended);
+    let until = millis.saturating_add(process.options.drain().saturating_mul(1_000));
     let stores_before = ended.slots.len().saturating_add(ended.gone.dests.len());
+    let mut found = files.dests;
     let inherited = inherit(
-        alloc, ended, places, &kept, &returned, &mut found, logged, news,
+        alloc, ended, new_places, &kept, &returned, &mut found, until, logged, news,
     );
+    let mut shared = shared;
+    if inherited.gone.are_none() {
+        shared.drop_gone(alloc);
+    }
     let stores = kept.len().saturating_add(inherited.gone.dests.len());
     first.keep_for_stores(stores_before, stores);
     let shape = shape_of(configuration.settings(), receivers.len(), process);
@@ -99,72 +119,42 @@ pub(crate) fn start_after(
             status: server,
         },
         blank,
+        shared,
         inherited,
     }
 }
 
-/// Room for all that goes to a new place.
-fn places_of(
+/// The destinations of a run that the next one does not have, and those that were gone before and are not back, by place: until
+/// when the former are sent to is known once the run has ended, the latter are as before.
+fn parting_of<B: Set>(
     alloc: Global,
-    ended: &EndedRun,
-    prepared: &NextPlan,
-    process: &Process<'_>,
-    millis: u64,
-) -> Result<NewPlaces, NoMemory> {
-    let count = prepared.places.kept.len();
-    let parting = parting_of(alloc, ended, prepared, process, millis)?;
-    Ok(NewPlaces {
-        slots: DestSlots::new(alloc, count)?,
-        dests: Vec::with_capacity(alloc, count)?,
-        earlier: Vec::with_capacity(alloc, count)?,
-        rests: Vec::with_capacity(alloc, count)?,
-        gone: GoneDests::with_room(alloc, parting.len())?,
-        parting,
-    })
-}
-
-/// The destinations of the run that has ended which the next one does not have, and those that were gone before and are not
-/// back, by place: the former until `--drain` is over from now on, the latter as before.
-fn parting_of(
-    alloc: Global,
-    ended: &EndedRun,
-    prepared: &NextPlan,
-    process: &Process<'_>,
-    millis: u64,
+    relay: &Relay<B>,
+    places: &KeptPlaces,
 ) -> Result<Vec<Option<PartingDest>>, NoMemory> {
     let mut parting = Vec::new(alloc);
-    let until = millis.saturating_add(process.options.drain().saturating_mul(1_000));
-    let old = ended.record.configuration.settings().destinations();
-    add_parting(
-        &mut parting,
-        old,
-        prepared.places.kept.as_slice(),
-        &[],
-        until,
-    )?;
-    let gone = &ended.gone;
+    let old = relay.configuration.settings().destinations();
+    add_parting(&mut parting, old, places.kept.as_slice(), &[])?;
+    let gone = &relay.gone;
     add_parting(
         &mut parting,
         gone.dests.as_slice(),
-        prepared.places.returned.as_slice(),
+        places.returned.as_slice(),
         gone.until.as_slice(),
-        0,
     )?;
     Ok(parting)
 }
 
-/// Adds those of a list of destinations whose places are not among these, and until when each is sent to: by place, or, if that
-/// is not said, until these milliseconds.
+/// Adds those of a list of destinations whose places are not among these, and until when each is sent to, by place, as far as that
+/// is known.
 fn add_parting(
     parting: &mut Vec<Option<PartingDest>>,
     dests: &[Dest],
     kept: &[Option<DestId>],
     until: &[u64],
-    otherwise: u64,
 ) -> Result<(), NoMemory> {
     for (place, dest) in dests.iter().enumerate() {
         let is_kept = kept.contains(&Some(DestId(place)));
-        let until = until.get(place).copied().unwrap_or(otherwise);
+        let until = until.get(place).copied().unwrap_or(0);
         let one = if is_kept {
             None
         } else {
@@ -176,7 +166,7 @@ fn add_parting(
 }
 
 /// Gives each destination of the next run what is left for it: of the run that has ended, or as a destination that was gone, or
-/// its files. It takes no memory.
+/// its files. Those that are gone from now on are sent to until these milliseconds. It takes no memory.
 fn inherit(
     alloc: Global,
     ended: &mut EndedRun,
@@ -184,6 +174,7 @@ fn inherit(
     kept: &[Option<DestId>],
     returned: &[Option<DestId>],
     files: &mut Vec<Option<spool::DestSpool>>,
+    until: u64,
     logged: Vec<ReceiverLog>,
     news: String,
 ) -> Inherited {
@@ -197,7 +188,7 @@ fn inherit(
         let left = left_for(ended, kept[place], returned, found);
         places.add(ended, place, kept[place], left);
     }
-    places.add_gone(ended);
+    places.add_gone(ended, until);
     let NewPlaces {
         slots,
         dests,
@@ -238,8 +229,8 @@ impl NewPlaces {
         );
     }
 
-    /// Those destinations are gone of which something is left that is still sent.
-    fn add_gone(&mut self, ended: &EndedRun) {
+    /// Those destinations are gone of which something is left that is still sent: until these milliseconds, or as before.
+    fn add_gone(&mut self, ended: &EndedRun, until: u64) {
         let count = ended.slots.len();
         for place in 0..self.parting.len() {
             let Some(one) = take_at(&mut self.parting, place) else {
@@ -252,8 +243,19 @@ impl NewPlaces {
             };
             if !left.is_nothing() {
                 self.gone.add(one, left);
+                if place < count {
+                    put_last(&mut self.gone.until, until);
+                }
             }
         }
+    }
+}
+
+/// Puts a number in the place of the last one.
+fn put_last(numbers: &mut Vec<u64>, number: u64) {
+    let last = numbers.len().saturating_sub(1);
+    if let Some(place) = numbers.get_mut(last) {
+        *place = number;
     }
 }
 

@@ -1,9 +1,14 @@
 //! A run that is to follow the one that runs.
+//!
+//! What can be made of it before that one ends is made and held then: what follows cannot fail for want of it.
 
 ghost use Rattle.std.specs.Prelude.{◌≤◌};
 
+use crate::next_start::NewPlaces;
 use crate::relay::Relay;
 use crate::reload_source::RefusedReload;
+use crate::shape::Shape;
+use crate::shared_parts::SharedParts;
 use crate::shortage::{Needs, Shortage, try_needs};
 use crate::spool_folder::{SpoolFolder, open_new_files};
 use admin_client::Refusal;
@@ -30,21 +35,24 @@ pub(crate) struct PreparedRun<B: Set> {
 }
 
 /// A run that is to follow the one that runs: its configuration, which was read and checked; its ports; the totals of its
-/// queues; where each of its destinations is among those of the run, and among those that are gone; the files of the others;
-/// the line of the log; and the connection that waits for the answer.
+/// queues; what its threads share; where each of its destinations is among those of the run, and among those that are gone;
+/// their new places; the files of the others, and the first lines of the log; the line of the answer; and the connection that
+/// waits for that.
 #[derive(Drop)]
 pub(crate) struct NextPlan {
     pub(crate) configuration: RunConfiguration,
     pub(crate) receivers: Vec<BoundPort>,
     pub(crate) blank: BlankTotals,
+    pub(crate) shared: SharedParts,
     pub(crate) places: KeptPlaces,
+    pub(crate) new_places: NewPlaces,
     pub(crate) files: SpoolFiles,
     pub(crate) line: String,
     pub(crate) connection: u64,
 }
 
-/// Makes ready what a run by a configuration needs before the one that runs ends, and tries what can be made only then. Refuses
-/// another setting of a port, and what the system refuses or is short of; then nothing has changed.
+/// Makes and holds what a run by a configuration needs before the one that runs ends, and tries what can be made only then.
+/// Refuses another setting of a port, and what the system refuses or is short of; then nothing has changed.
 pub(crate) fn prepared_by<B: Set, R: SpoolDisk + Net + Threads>(
     rt: &R,
     alloc: Global,
@@ -54,39 +62,59 @@ pub(crate) fn prepared_by<B: Set, R: SpoolDisk + Net + Threads>(
     configuration: RunConfiguration,
     connection: u64,
 ) -> Result<PreparedRun<B>, RefusedReload> {
-    let (old, new) = (relay.configuration.settings(), configuration.settings());
-    if let Some(setting) = first_fixed_change(old, new) {
-        let refused = needs_restart(alloc, FixedChange { setting, old, new });
+    if let Some(refused) = refusal_of(alloc, relay, &configuration) {
         drop(configuration);
         return Err(refused);
-    }
-    if gone_count(relay, &configuration) > MOST_DESTINATIONS {
-        drop(configuration);
-        let text = String::from_str(
-            alloc,
-            "more than 64 destinations that are gone are still sent to\n",
-        );
-        return Err(refused(alloc, Refusal::Device, text));
     }
     if let Err(shortage) = try_needs(rt, alloc, Needs::of(relay, &configuration)) {
         drop(configuration);
         return Err(refused_for(alloc, shortage));
     }
-    let receivers = match ports.for_receivers(alloc) {
-        Ok(receivers) => receivers,
-        Err(fault) => {
-            drop(configuration);
-            return Err(refused_for(alloc, shortage_of(fault)));
-        }
-    };
     let made = match made_ready(rt, alloc, relay, &configuration, folder) {
         Ok(made) => made,
         Err(fault) => {
             drop(configuration);
-            drop(receivers);
             return Err(refused_for_file(alloc, fault));
         }
     };
+    match held_for(rt, alloc, relay, ports, &made.places) {
+        Ok(held) => Ok(prepared_for(configuration, made, held, connection)),
+        Err(shortage) => {
+            drop(configuration);
+            drop(made);
+            Err(refused_for(alloc, shortage))
+        }
+    }
+}
+
+/// Why a run by a configuration cannot follow this one, whatever the system has: another setting of a port, or too many
+/// destinations that are gone.
+fn refusal_of<B: Set>(
+    alloc: Global,
+    relay: &Relay<B>,
+    configuration: &RunConfiguration,
+) -> Option<RefusedReload> {
+    let (old, new) = (relay.configuration.settings(), configuration.settings());
+    if let Some(setting) = first_fixed_change(old, new) {
+        return Some(needs_restart(alloc, FixedChange { setting, old, new }));
+    }
+    if gone_count(relay, configuration) > MOST_DESTINATIONS {
+        let text = String::from_str(
+            alloc,
+            "more than 64 destinations that are gone are still sent to\n",
+        );
+        return Some(refused(alloc, Refusal::Device, text));
+    }
+    None
+}
+
+/// The run by a configuration that is to follow, of what was made ready and is held for it.
+fn prepared_for<B: Set>(
+    configuration: RunConfiguration,
+    made: MadeReady<B>,
+    held: Held,
+    connection: u64,
+) -> PreparedRun<B> {
     let MadeReady {
         places,
         files,
@@ -94,16 +122,23 @@ pub(crate) fn prepared_by<B: Set, R: SpoolDisk + Net + Threads>(
         blank,
         room,
     } = made;
+    let Held {
+        receivers,
+        new_places,
+        shared,
+    } = held;
     let next = NextPlan {
         configuration,
         receivers,
         blank,
+        shared,
         places,
+        new_places,
         files,
         line,
         connection,
     };
-    Ok(PreparedRun { next, room })
+    PreparedRun { next, room }
 }
 
 /// How many destinations a run by a configuration does not have that this one has, or still sends to though they are gone.
@@ -124,7 +159,16 @@ fn lacked_by(list: &[Dest], dests: &[Dest]) -> usize {
     count
 }
 
-/// What a run needs that is to follow this one, beside its configuration and its ports, and room for what this one leaves.
+/// What is held of the system for a run that is to follow this one, beside files: its ports, the places of its destinations, and
+/// what its threads share.
+#[derive(Drop)]
+struct Held {
+    receivers: Vec<BoundPort>,
+    new_places: NewPlaces,
+    shared: SharedParts,
+}
+
+/// What a run needs that is to follow this one, beside its configuration and what is held, and room for what this one leaves.
 #[derive(Drop)]
 struct MadeReady<B: Set> {
     places: KeptPlaces,
@@ -141,7 +185,7 @@ pub(crate) struct KeptPlaces {
     pub(crate) returned: Vec<Option<DestId>>,
 }
 
-/// Makes ready what needs memory or descriptors for a run by a configuration.
+/// Makes ready what needs memory or files for a run by a configuration.
 fn made_ready<B: Set, R: SpoolDisk>(
     rt: &R,
     alloc: Global,
@@ -155,7 +199,8 @@ fn made_ready<B: Set, R: SpoolDisk>(
     let places = kept_of(alloc, relay, settings.destinations())?;
     let blank = BlankTotals::new(alloc)?;
     let room = relay.queues.end_room(alloc)?;
-    let files = new_files(rt, alloc, settings.destinations(), &places, folder)?;
+    let dests = settings.destinations();
+    let files = new_files(rt, alloc, dests, &places, folder, line.as_str())?;
     Ok(MadeReady {
         places,
         files,
@@ -163,6 +208,40 @@ fn made_ready<B: Set, R: SpoolDisk>(
         blank,
         room,
     })
+}
+
+/// Makes what a run holds from before this one ends, whose destinations have these places here.
+fn held_for<B: Set, R: Net>(
+    rt: &R,
+    alloc: Global,
+    relay: &Relay<B>,
+    ports: &FirstPorts,
+    places: &KeptPlaces,
+) -> Result<Held, Shortage> {
+    let receivers = match ports.for_receivers(alloc) {
+        Ok(receivers) => receivers,
+        Err(fault) => return Err(shortage_of(fault)),
+    };
+    let Ok(new_places) = NewPlaces::after(alloc, relay, places) else {
+        drop(receivers);
+        return Err(Shortage::Memory);
+    };
+    let shape = Shape {
+        dests: places.kept.len(),
+        ..relay.shape
+    };
+    match SharedParts::new(rt, alloc, shape, new_places.may_be_gone()) {
+        Ok(shared) => Ok(Held {
+            receivers,
+            new_places,
+            shared,
+        }),
+        Err(fault) => {
+            drop(receivers);
+            drop(new_places);
+            Err(shortage_of(fault))
+        }
+    }
 }
 
 /// Where each of these destinations is among those of a relay.
@@ -174,18 +253,28 @@ fn kept_of<B: Set>(alloc: Global, relay: &Relay<B>, new: &[Dest]) -> Result<Kept
     })
 }
 
-/// Opens the files of those of these destinations that are at no place.
+/// Opens the files of those of these destinations that are at no place. What is to be said of them is behind this line.
 fn new_files<R: SpoolDisk>(
     rt: &R,
     alloc: Global,
     dests: &[Dest],
     places: &KeptPlaces,
     folder: Option<SpoolFolder<'_>>,
+    line: &str,
 ) -> Result<SpoolFiles, OpenFault> {
     let known = known_places(alloc, places)?;
     let files = open_new_files(rt, alloc, dests, known.as_slice(), folder);
     drop(known);
-    files
+    let SpoolFiles { dests: files, news } = files?;
+    let behind = format!(in alloc; "{line}{news}");
+    drop(news);
+    match behind {
+        Ok(news) => Ok(SpoolFiles { dests: files, news }),
+        Err(_) => {
+            drop(files);
+            Err(OpenFault::NoMemory)
+        }
+    }
 }
 
 /// Which destinations the run has, or has as gone.
@@ -236,7 +325,7 @@ fn needs_restart(alloc: Global, change: FixedChange<'_>) -> RefusedReload {
     )
 }
 
-/// What the system was short of for another one of a port, which is bound already.
+/// What the system was short of for another one of a port, which is bound already, or for what a sender waits with.
 fn shortage_of(fault: RelayFault) -> Shortage {
     match fault {
         RelayFault::NoMemory => Shortage::Memory,

@@ -4,8 +4,8 @@ ghost use Rattle.std.specs.Prelude.{◌≡◌, ◌≤◌, true, length, IfErr};
 ghost use Rattle.relay_ports.specs.StartFault.{is_start_fault};
 
 use crate::inherited::Inherited;
-use crate::sender_setup::{alarms_of, watches_of};
 use crate::shape::Shape;
+use crate::shared_parts::SharedParts;
 use crate::start::{Process, Start};
 use finished_run::{FinishedRun, ThreadLogs};
 use locked_queues::{
@@ -20,7 +20,6 @@ use relay_watchers::{LateNews, ReceiverLog, StatusServer};
 use run_state::{DestSources, EndOrders, RunState};
 use senders::WakeGate;
 use std::alloc::Global;
-use std::net::Net;
 use std::sync::Arc;
 use std::time::Instant;
 use store_lines::{DestSlots, GoneDests};
@@ -92,17 +91,6 @@ pub(crate) struct Seats<B: Set> {
     pub(crate) outlets: Vec<OutletSeat<B>>,
 }
 
-/// What a relay has beside its queues: the gate that wakes the senders, what its threads share, what each sender waits with,
-/// and what that to destinations that are gone does.
-#[derive(Drop)]
-struct SharedParts {
-    gate: WakeGate,
-    state: RunState,
-    gone_gate: WakeGate,
-    gone_watch: Option<Readiness>,
-    watches: Vec<Readiness>,
-}
-
 /// Why a relay cannot be opened, and what ended runs left.
 #[derive(Drop)]
 pub(crate) struct RefusedStart {
@@ -111,10 +99,9 @@ pub(crate) struct RefusedStart {
 }
 
 impl<B: Set> Relay<B> {
-    /// Opens a relay, whose log goes to this output, if it has one. Refuses a fault of the start, and gives back what ended
-    /// runs left.
-    pub(crate) fn open<R: Net, L: Drop>(
-        rt: &R,
+    /// Opens a relay, whose log goes to this output, if it has one. Refuses if out of memory, and gives back what ended runs
+    /// left.
+    pub(crate) fn open<L: Drop>(
         alloc: Global,
         start: Start,
         log: Option<L>,
@@ -134,19 +121,11 @@ impl<B: Set> Relay<B> {
             shape,
             ports,
             blank,
+            shared,
             inherited,
         } = start;
         let (dests, size) = (shape.dests, shape.size);
         let (receivers, senders) = (shape.receivers, shape.senders);
-        let shared = match shared_of(rt, alloc, shape, inherited.gone.are_none()) {
-            Ok(shared) => shared,
-            Err(fault) => {
-                drop(configuration);
-                drop((ports, blank));
-                drop(log);
-                return Err(RefusedStart { fault, inherited });
-            }
-        };
         match Queues::<B>::new(alloc, blank, NAME, dests, size, receivers, senders) {
             Ok(opened) => Ok(open_relay(
                 configuration,
@@ -281,46 +260,4 @@ fn open_relay<B: Set, L: Drop>(
         },
         ports: first,
     }
-}
-
-/// The gate that wakes the senders of a run of this shape, what its threads share, the readiness of each sender, and that of
-/// the sender to destinations that are gone, if there are such.
-fn shared_of(
-    rt: &impl Net,
-    alloc: Global,
-    shape: Shape,
-    are_none_gone: bool,
-) -> Result<SharedParts, RelayFault>
-    ensures { IfErr result (λ fault. is_start_fault fault ≡ true) }
-{
-    let watches = watches_of(rt, alloc, shape.senders)?;
-    let alarms = alarms_of(alloc, watches.as_slice())?;
-    let (gone_watch, gone_gate) = gone_watch_of(rt, alloc, are_none_gone)?;
-    let state = RunState::new(
-        alloc,
-        shape.dests,
-        shape.line_receivers,
-        shape.drain_seconds,
-        shape.is_spooled,
-    )?;
-    Ok(SharedParts {
-        gate: WakeGate::new(alarms),
-        state,
-        gone_gate,
-        gone_watch,
-        watches,
-    })
-}
-
-/// What the sender to destinations that are gone waits with, and the gate that wakes it; none if there are none.
-fn gone_watch_of(
-    rt: &impl Net,
-    alloc: Global,
-    are_none: bool,
-) -> Result<(Option<Readiness>, WakeGate), RelayFault>
-    ensures { IfErr result (λ fault. is_start_fault fault ≡ true) }
-{
-    let mut watches = watches_of(rt, alloc, usize::from(!are_none))?;
-    let alarms = alarms_of(alloc, watches.as_slice())?;
-    Ok((watches.pop(), WakeGate::new(alarms)))
 }

@@ -1,12 +1,12 @@
 //! `relayd run`: a running relay, from its start to its settling.
 //!
-//! A run has five parts. *Opening* is `Start::new`, which binds the ports, and `Relay::open`, which makes what the threads
-//! share; *running* is `serve_if`, beside the threads that `run_all_threads` started; *ending* is `end_threads`; *settling* is
-//! `Queues::settle`; and `write_end` writes *what is left*. `run_relay` has all but the first of these.
+//! A run has five parts. *Opening* is `Start::new`, which binds the ports and makes what the threads share, and `Relay::open`,
+//! which makes the queues; *running* is `serve_if`, beside the threads that `run_all_threads` started; *ending* is
+//! `end_threads`; *settling* is `Queues::settle`; and `write_end` writes *what is left*. `run_relay` has all but `Start::new`.
 //!
 //! A reload ends a run, and begins another in the same process, over the same sockets: `run_all` is the loop. `prepared_by`
-//! makes the next run ready while the one before goes on; `ended_of` takes that apart, and `start_after` has what the next
-//! begins with.
+//! makes the next run ready while the one before goes on, and holds what can be made then; `ended_of` takes that one apart, and
+//! `start_after`, which cannot fail, has what the next begins with.
 
 ghost use Rattle.std.specs.Prelude.{◌≡◌, false, Ok, Err, IfOk, IfErr, Result};
 ghost use Rattle.std.specs.Io.KnownBytes.{Appends};
@@ -22,8 +22,8 @@ use crate::admin::{FirstState, RunBefore};
 use crate::closing::write_end;
 use crate::ended_run::{EndedRun, ended_of};
 use crate::inherited::Inherited;
-use crate::next_start::{places_after, start_after};
-use crate::prepared_run::{NextPlan, PreparedRun};
+use crate::next_start::start_after;
+use crate::prepared_run::PreparedRun;
 use crate::relay::{NAME, OpenRelay, Parts, Relay};
 use crate::reload_source::ReloadSource;
 use crate::running::run_until_ended;
@@ -34,16 +34,13 @@ use crate::thread_records::{Records, RunLeft};
 use finished_run::Recorder;
 use locked_queues::Set;
 use mio_loops::{SystemTimes, TimeSource};
-use relay_base::NoMemory;
 use relay_files::{RelayFault, RunConfiguration, Source, Sources, Status};
 use relay_ports::{FirstPorts, RunOptions};
-use relay_watchers::{LogEnd, StatusServer};
 use senders::HostThreads;
 use std::alloc::Global;
 use std::io::Write;
 use std::marker::Brand;
 use std::mem;
-use std::rt::Clock;
 use std::time::Instant;
 use store_lines::spool_slots;
 
@@ -233,7 +230,7 @@ fn run_relay<
         relay,
         parts,
         ports,
-    } = match Relay::<B>::open(rt, alloc, start, log, process, is_first) {
+    } = match Relay::<B>::open(alloc, start, log, process, is_first) {
         Ok(opened) => opened,
         Err(refused) => {
             drop(before);
@@ -273,7 +270,10 @@ fn run_relay<
         }
     };
     match next {
-        Some(next) => follow(rt, alloc, relay, left, next, ports, process, number),
+        Some(next) => {
+            let following = follow(rt, alloc, relay, left, next, ports, process, number);
+            Ok(RunEnd::Followed(following))
+        }
         None => {
             put_failures(
                 alloc,
@@ -333,8 +333,7 @@ fn stopped<L: Drop>(ended: Result<Status, RelayFault>) -> Result<RunEnd<L>, Rela
     }
 }
 
-/// Takes a relay apart whose run has ended, and makes of it what the next one begins with. If that cannot begin, what is left
-/// is written to files, if there is a folder.
+/// Takes a relay apart whose run has ended, and makes of it what the next one begins with. All that this needs is there.
 fn follow<B: Set, R: RelayRuntime, L: Drop>(
     rt: &R,
     alloc: Global,
@@ -344,65 +343,33 @@ fn follow<B: Set, R: RelayRuntime, L: Drop>(
     ports: FirstPorts,
     process: &Process<'_>,
     number: u64,
-) -> Result<RunEnd<L>, RelayFault>
-    ensures followed { IfOk result (λ end. IfFollowed end (λ following.
-        is_none following.before.waiting ≡ false)) }
-    ensures never_stopped { IfOk result (λ end. IfStopped end (λ _. ⊥)) }
-    ensures err { IfErr result (λ fault. fault ≡ RelayFault.NoMemory) }
+) -> NextRun<L>
+    ensures { is_none result.before.waiting ≡ false }
 {
     let RunLeft {
         records,
         log,
         server,
     } = left;
-    let PreparedRun { next, room } = next;
-    let mut ended = ended_of(alloc, relay, room, number, records);
-    match following(rt, alloc, &mut ended, next, ports, log, server, process) {
-        Ok((start, log, waiting)) => Ok(RunEnd::Followed(NextRun {
-            start,
-            log,
-            before: RunBefore {
-                waiting: Some(waiting),
-                record: Some(ended.record),
-            },
-            number: number.saturating_add(1),
-        })),
-        Err(NoMemory) => {
-            spool_ended(rt, alloc, ended, process);
-            Err(RelayFault::NoMemory)
-        }
-    }
-}
-
-/// What the next run begins with, the output of its log, and the connection that waits to be told of it.
-fn following<R: Clock, L: Drop>(
-    rt: &R,
-    alloc: Global,
-    ended: &mut EndedRun,
-    next: NextPlan,
-    ports: FirstPorts,
-    log: Option<LogEnd<L>>,
-    server: Option<StatusServer>,
-    process: &Process<'_>,
-) -> Result<(Start, Option<L>, u64), NoMemory> {
     let (output, logged) = match log {
         Some(log) => (Some(log.output), log.receivers),
         None => (None, Vec::new(alloc)),
     };
-    let mut next = next;
+    let PreparedRun { next, room } = next;
     let waiting = next.connection;
+    let mut ended = ended_of(alloc, relay, room, number, records);
     let millis = SystemTimes::since(rt, process.began).millis();
-    match places_after(alloc, ended, &mut next, process, millis) {
-        Ok(places) => {
-            let start = start_after(alloc, ended, next, places, ports, server, logged, process);
-            Ok((start, output, waiting))
-        }
-        Err(fault) => {
-            drop(next);
-            drop((ports, server));
-            drop((output, logged));
-            Err(fault)
-        }
+    let start = start_after(
+        alloc, &mut ended, next, ports, server, logged, process, millis,
+    );
+    NextRun {
+        start,
+        log: output,
+        before: RunBefore {
+            waiting: Some(waiting),
+            record: Some(ended.record),
+        },
+        number: number.saturating_add(1),
     }
 }
 

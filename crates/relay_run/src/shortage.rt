@@ -1,7 +1,7 @@
 //! What the system is short of for a run that is to follow.
 //!
-//! A reload tries what the next run needs before it changes anything, and gives all back at once: what another program takes
-//! before that run has begun is missing then all the same.
+//! A reload tries what the next run needs before it changes anything, and gives all back at once. Then it makes and holds a part
+//! of that: the rest may be missing all the same once that run begins, if another program took it.
 
 use crate::relay::Relay;
 use conf_text::Dest;

@@ -6,6 +6,7 @@ ghost use Rattle.relay_ports.specs.StartFault.{is_start_fault};
 use crate::inherited::Inherited;
 use crate::runtime::RelayRuntime;
 use crate::shape::{Shape, shape_of};
+use crate::shared_parts::SharedParts;
 use crate::spool_folder::{SpoolFolder, open_files};
 use conf_text::Settings;
 use locked_queues::BlankTotals;
@@ -18,14 +19,15 @@ use status_server::StatusListener;
 use std::alloc::Global;
 use std::time::Instant;
 
-/// What a run begins with: its configuration and its numbers, its ports, which are bound, the totals of its queues, and what
-/// ended runs left.
+/// What a run begins with: its configuration and its numbers, its ports, which are bound, the totals of its queues, what its
+/// threads share, and what ended runs left.
 #[derive(Drop)]
 pub(crate) struct Start {
     pub(crate) configuration: RunConfiguration,
     pub(crate) shape: Shape,
     pub(crate) ports: Ports<StatusServer>,
     pub(crate) blank: BlankTotals,
+    pub(crate) shared: SharedParts,
     pub(crate) inherited: Inherited,
     ghost dests: { (shape.dests ≡ length configuration.settings.routing.destinations)
         × (1 ≤ shape.dests) × (shape.dests ≤ 64) },
@@ -77,17 +79,18 @@ impl Start {
         };
         let shape = shape_of(settings, ports.receivers.len(), process);
         match begin_with(rt, alloc, settings, &shape, process) {
-            Ok((inherited, blank)) => Ok(Start {
+            Ok((inherited, blank, shared)) => Ok(Start {
                 configuration,
                 shape,
                 ports,
                 blank,
+                shared,
                 inherited,
             }),
             Err(fault) => {
                 drop(configuration);
                 drop(ports);
-                Err(put_fault(process.folder, fault))
+                Err(fault)
             }
         }
     }
@@ -127,8 +130,33 @@ fn put_fault(folder: Option<SpoolFolder<'_>>, fault: OpenFault) -> RelayFault
     }
 }
 
-/// What the first run of a process finds in the folder of what was not sent, and the totals of its queues.
+/// What the first run of a process finds in the folder of what was not sent, the totals of its queues, and what its threads
+/// share.
 fn begin_with<R: RelayRuntime>(
+    rt: &R,
+    alloc: Global,
+    settings: &Settings,
+    shape: &Shape,
+    process: &Process<'_>,
+) -> Result<(Inherited, BlankTotals, SharedParts), RelayFault>
+    ensures { IfErr result (λ fault. is_start_fault fault ≡ true) }
+{
+    let (inherited, blank) = match found_by(rt, alloc, settings, shape, process) {
+        Ok(found) => found,
+        Err(fault) => return Err(put_fault(process.folder, fault)),
+    };
+    match SharedParts::new(rt, alloc, *shape, false) {
+        Ok(shared) => Ok((inherited, blank, shared)),
+        Err(fault) => {
+            drop(inherited);
+            drop(blank);
+            Err(fault)
+        }
+    }
+}
+
+/// What the first run of a process finds in the folder of what was not sent, and the totals of its queues.
+fn found_by<R: RelayRuntime>(
     rt: &R,
     alloc: Global,
     settings: &Settings,

@@ -1,5 +1,5 @@
 use Rattle.std.proofs.lemmas.Result.{IfOk-weaker, IfErr-weaker}
-use Rattle.relay_run.proofs.RunEndings.{err-is, ok-is, on_ok-is, fails-at_start, fails-early, fails-opened, fails-closing, writes-both, stopped-weaker, followed-weaker, never-stopped, never-followed}
+use Rattle.relay_run.proofs.RunEndings.{err-is, ok-is, on_ok-is, fails-at_start, fails-early, fails-closing, writes-both, stopped-weaker, never-followed}
 use Rattle.relay_run.proofs.run_command.run_relay.Goals as goal
 
 -- it could not be opened
@@ -15,14 +15,13 @@ returns-in-Err-left g c =
       err = fails-early _ _ _ _ (err-is _ _ _ c.in-Err-left.is c.run_until_ended-left.ensures.err);
     }
 
--- another one follows, or memory ran out
+-- another one follows
 pub returns-in-Some : goal.returns-in-Some
 returns-in-Some g c =
-    let opened = on_ok-is _ _ _ c.in-Ok-left.is c.run_until_ended-left.ensures.ok in
     record {
-      stopped = IfOk-weaker c.follow.result _ _ (λ e is. never-stopped e _ is) c.follow.ensures.never_stopped;
-      followed = IfOk-weaker c.follow.result _ _ (λ e is. followed-weaker e _ _ (λ next waits. (opened, waits)) is) c.follow.ensures.followed;
-      err = IfErr-weaker c.follow.result _ _ (λ fault is. fails-opened _ _ _ fault opened is) c.follow.ensures.err;
+      stopped = tt;
+      followed = (on_ok-is _ _ _ c.in-Ok-left.is c.run_until_ended-left.ensures.ok, c.follow-following.ensures);
+      err = tt;
     }
 
 -- it was stopped
