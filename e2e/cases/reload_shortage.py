@@ -48,7 +48,7 @@ class Strained(Reloads):
     def starved(self):
         """What a relay does before it begins, so that the system is slow or short while the case wants it."""
         library = compiled(os.fspath(self.folder), "starved")
-        switches = {name: self.path(name) for name in ("SLOW_SYNCS", "NO_THREADS")}
+        switches = {name: self.path(name) for name in ("SLOW_SYNCS", "NO_THREADS", "NO_ALARMS")}
         return lambda: os.environ.update(LD_PRELOAD=library, **switches)
 
     def switch(self, name):
@@ -223,6 +223,15 @@ class Short(Strained):
             for _ in range(3):
                 self.stays(relay, store, NO_THREADS)
             os.remove(self.path("NO_THREADS"))
+            self.is_done(relay, store)
+
+    def test_no_descriptor_for_what_wakes_a_sender(self):
+        """It is not among those that are tried, but made while the run goes on."""
+        with self.one(before=self.starved()) as (relay, store):
+            self.switch("NO_ALARMS")
+            for _ in range(3):
+                self.stays(relay, store, NO_DESCRIPTORS)
+            os.remove(self.path("NO_ALARMS"))
             self.is_done(relay, store)
 
     @unittest.skipIf(os.geteuid(), "only root can be another user")

@@ -54,7 +54,12 @@ impl NewPlaces {
 
     /// Whether a destination may be gone: one is not kept.
     pub(crate) fn may_be_gone(&self) -> bool {
-        self.parting.iter().any(|one| one.is_some())
+        for one in &self.parting {
+            if one.is_some() {
+                return true;
+            }
+        }
+        false
     }
 }
 
@@ -85,29 +90,29 @@ pub(crate) fn start_after(
         receivers,
         blank,
         shared,
-        places: KeptPlaces { kept, returned },
+        places,
         new_places,
         files,
         ..
     } = prepared;
     let mut server = server;
     if let Some(server) = &mut server {
-        server.keep_dests(alloc, kept.as_slice());
+        server.keep_dests(alloc, places.kept.as_slice());
     }
     let mut news = files.news;
     // Without memory for that the log lacks it.
     let _said = say_drops(&mut news, ended);
-    let until = millis.saturating_add(process.options.drain().saturating_mul(1_000));
     let stores_before = ended.slots.len().saturating_add(ended.gone.dests.len());
-    let mut found = files.dests;
-    let inherited = inherit(
-        alloc, ended, new_places, &kept, &returned, &mut found, until, logged, news,
-    );
+    let (mut found, mut new_places) = (files.dests, new_places);
+    new_places.inherit(ended, &places, &mut found);
+    let drain_millis = process.options.drain().saturating_mul(1_000);
+    new_places.add_gone(ended, millis.saturating_add(drain_millis));
+    let inherited = inherited_of(alloc, ended, new_places, logged, news);
     let mut shared = shared;
     if inherited.gone.are_none() {
         shared.drop_gone(alloc);
     }
-    let stores = kept.len().saturating_add(inherited.gone.dests.len());
+    let stores = places.kept.len().saturating_add(inherited.gone.dests.len());
     first.keep_for_stores(stores_before, stores);
     let shape = shape_of(configuration.settings(), receivers.len(), process);
     Start {
@@ -165,30 +170,14 @@ fn add_parting(
     Ok(())
 }
 
-/// Gives each destination of the next run what is left for it: of the run that has ended, or as a destination that was gone, or
-/// its files. Those that are gone from now on are sent to until these milliseconds. It takes no memory.
-fn inherit(
+/// What the next run begins with of what this one leaves, with its destinations at these places. It takes no memory.
+fn inherited_of(
     alloc: Global,
     ended: &mut EndedRun,
     places: NewPlaces,
-    kept: &[Option<DestId>],
-    returned: &[Option<DestId>],
-    files: &mut Vec<Option<spool::DestSpool>>,
-    until: u64,
     logged: Vec<ReceiverLog>,
     news: String,
 ) -> Inherited {
-    let mut places = places;
-    for place in 0..kept.len() {
-        let found = match files.get_mut(place) {
-            Some(files) => files.take(),
-            None => None,
-        };
-        let returned = returned.get(place).copied().flatten();
-        let left = left_for(ended, kept[place], returned, found);
-        places.add(ended, place, kept[place], left);
-    }
-    places.add_gone(ended, until);
     let NewPlaces {
         slots,
         dests,
@@ -215,6 +204,26 @@ fn inherit(
 }
 
 impl NewPlaces {
+    /// Gives each destination of the next run what is left for it: of the run that has ended, or as a destination that was gone,
+    /// or its files. It takes no memory.
+    fn inherit(
+        &mut self,
+        ended: &mut EndedRun,
+        places: &KeptPlaces,
+        files: &mut Vec<Option<spool::DestSpool>>,
+    ) {
+        let kept = places.kept.as_slice();
+        for place in 0..kept.len() {
+            let found = match files.get_mut(place) {
+                Some(files) => files.take(),
+                None => None,
+            };
+            let returned = places.returned.get(place).copied().flatten();
+            let left = left_for(ended, kept[place], returned, found);
+            self.add(ended, place, kept[place], left);
+        }
+    }
+
     /// The destination of the next place, which was at this one before, if it was, has this left.
     fn add(&mut self, ended: &mut EndedRun, place: usize, kept: Option<DestId>, left: LeftDest) {
         let (queued, in_hand) = left.counts();

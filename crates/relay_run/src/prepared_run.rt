@@ -159,8 +159,8 @@ fn lacked_by(list: &[Dest], dests: &[Dest]) -> usize {
     count
 }
 
-/// What is held of the system for a run that is to follow this one, beside files: its ports, the places of its destinations, and
-/// what its threads share.
+/// What is held for a run that is to follow this one, beside its files: its ports, the places of its destinations, and what its
+/// threads share.
 #[derive(Drop)]
 struct Held {
     receivers: Vec<BoundPort>,
