@@ -16,11 +16,11 @@ _relayd() {
         before=${COMP_WORDS[COMP_CWORD-2]}
     fi
     if [ "$COMP_CWORD" -eq 1 ]; then
-        mapfile -t COMPREPLY < <(compgen -W "pass check route replay run report stop restart reload help -h --help -V --version" -- "$word")
+        mapfile -t COMPREPLY < <(compgen -W "pass check route replay run report watch stop restart reload help -h --help -V --version" -- "$word")
         return
     fi
     case $before in
-        --moment|--longest-name|--admin|--idle|--drain|--status|--status-interface)
+        --moment|--longest-name|--admin|--idle|--drain|--status|--status-interface|--dest|--seconds)
             return ;;
         --config|--rules|--rewrite|--spool|--admin-key|--names|--lines|--record)
             _relayd_files "$word"
@@ -43,11 +43,12 @@ _relayd() {
         replay) options="--config --rules --rewrite --longest-name --lines --text --explain --strict" ;;
         run) options="--config --rules --rewrite --longest-name --admin --admin-key --senders --line-receivers --idle --drain --spool --status --status-interface --log --log-format --record --explain" ;;
         report) options="--admin --admin-key --json" ;;
+        watch) options="--admin --admin-key --dest --names --lines --seconds --json" ;;
         stop) options="--admin --admin-key --wait" ;;
         restart) options="--config --rules --rewrite --longest-name --explain --admin --admin-key" ;;
         reload) options="--explain --admin --admin-key" ;;
         help)
-            mapfile -t COMPREPLY < <(compgen -W "pass check route replay run report stop restart reload help" -- "$word")
+            mapfile -t COMPREPLY < <(compgen -W "pass check route replay run report watch stop restart reload help" -- "$word")
             return ;;
         *) return ;;
     esac

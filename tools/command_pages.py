@@ -43,6 +43,9 @@ def parts(command):
         elif of_word and of_word[0][0] == word and all(each.is_option() for each in of_word[0]):
             yield of_word[0]
     yield from last
+    bare = command.bare()
+    if bare and all(bare not in choice for choice in choices):
+        yield [bare]
 
 
 def written(command, word):

@@ -70,11 +70,11 @@ def word_of(found):
 
 
 def goes_with(word, choices):
-    """A word that excludes one of a choice goes with the other one."""
+    """A word that excludes one of a choice goes with the other one; one that excludes another word goes with none."""
     if word.form != "ValueWithout":
         return word
-    return word._replace(other=next(first if second == word.other else second for first, second in choices
-                                    if word.other in (first, second)))
+    return word._replace(other=next((first if second == word.other else second for first, second in choices
+                                     if word.other in (first, second)), None))
 
 
 def words_in(text, constants):

@@ -119,14 +119,15 @@ def takes_files(word):
 
 
 def options_by(key):
-    """The options of all commands that have a value, in order, once each, in lists by what `key` gives of them."""
-    found = {}
+    """The options of all commands that have a value, in order, once each, in lists by what `key` gives of them; of several of one
+    name, by the first."""
+    found, names = {}, set()
     for command in commands():
         for word in command.options():
-            group = found.setdefault(key(word), [])
-            if word.value and word.name not in group:
-                group.append(word.name)
-    return {key: group for key, group in found.items() if group}
+            if word.value and word.name not in names:
+                found.setdefault(key(word), []).append(word.name)
+                names.add(word.name)
+    return found
 
 
 def bash_values():

@@ -6,7 +6,7 @@ use Rattle.std.specs.Io.BufRead.{strip_last}
 use Rattle.relay_base.specs.Ascii.{newline, carriage_return}
 use Rattle.admin_client.specs.ReloadAnswer.{behind}
 use Rattle.admin_client.specs.declared.admin_command.AdminCommand.{AdminCommand}
-use Rattle.admin_client.specs.declared.admin_command.AdminCommand.TheVariants.{Report, Stop, Reload, Files, Route}
+use Rattle.admin_client.specs.declared.admin_command.AdminCommand.TheVariants.{Report, Stop, Reload, Files, Route, Watch}
 
 -- a newline ends the first line
 abbrev pub is_newline : ℕ → Bool
@@ -34,10 +34,15 @@ short_enough (Some name) = if nat_le (length name) 4096 then Some name else None
 abbrev pub routed_by : List ℕ → Option (List ℕ)
 routed_by text = short_enough (behind (codes "route ") text)
 
--- to ask where a name goes is a command
-abbrev pub route_of : Option (List ℕ) → Option AdminCommand
-route_of None = None
-route_of (Some name) = Some Route
+-- what a text asks of a watch, if it does
+abbrev pub watched_by : List ℕ → Option (List ℕ)
+watched_by text = short_enough (behind (codes "watch ") text)
+
+-- to ask where a name goes is a command, and so is to ask something of a watch
+abbrev pub asking_of : (name asked : Option (List ℕ)) → Option AdminCommand
+asking_of (Some name) asked = Some Route
+asking_of None (Some asked) = Some Watch
+asking_of None None = None
 
 -- the command of a text, if it is one
 abbrev pub command_of : List ℕ → Option AdminCommand
@@ -45,7 +50,8 @@ command_of text =
     if bytes_eq text (codes "report") then Some Report
     else (if bytes_eq text (codes "stop") then Some Stop
     else (if bytes_eq text (codes "reload") then Some Reload
-    else (if bytes_eq text (codes "files") then Some Files else route_of (routed_by text))))
+    else (if bytes_eq text (codes "files") then Some Files
+    else asking_of (routed_by text) (watched_by text))))
 
 -- the command that was sent, if it is one
 abbrev pub command_in : List ℕ → Option AdminCommand
@@ -54,3 +60,7 @@ command_in sent = command_of (command_text sent)
 -- the name of which was asked where it goes, if that was sent
 abbrev pub routed_name : List ℕ → Option (List ℕ)
 routed_name sent = routed_by (command_text sent)
+
+-- what was asked of a watch, if that was sent
+abbrev pub asked_of_watch : List ℕ → Option (List ℕ)
+asked_of_watch sent = watched_by (command_text sent)

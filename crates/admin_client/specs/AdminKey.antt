@@ -58,6 +58,7 @@ words_of command.Stop = codes "stop"
 words_of command.Reload = codes "reload"
 words_of command.Files = codes "files"
 words_of command.Route = codes "route "
+words_of command.Watch = codes "watch "
 
 -- the line of a key, if there is one
 abbrev pub key_line : Option (List ℕ) → List ℕ

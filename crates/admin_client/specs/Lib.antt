@@ -3,6 +3,8 @@ pub mod AdminKey
 pub mod ReloadAnswer
 pub mod RouteAnswer
 pub mod RouteText
+pub mod WatchAnswer
+pub mod WatchText
 pub mod ReloadText
 pub mod FilesAnswer
 pub mod ReloadNames

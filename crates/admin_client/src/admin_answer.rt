@@ -9,13 +9,14 @@ use crate::admin_key::WRONG_KEY;
 use crate::reload_answer::{RELOADED, reload_answer_in};
 use crate::reload_files::reload_files_in;
 use crate::route_answer::{DROPPED, ROUTED, route_answer_in};
+use crate::watch_answer::{WATCH_OVER, WATCH_REFUSED, WATCHED, WATCHING, watch_answer_in};
 
 /// What each line of a report begins with.
 const DESTINATION: &[u8] = b"destination ";
 
 /// Refuses all that arrived on a connection, up to its end, if it is not what a relay answers to a command: `stopping` to
 /// `stop`, lines of destinations, one or more, to `report`, `reloaded` or a refusal with its reason to `reload`, the name of
-/// a configuration file, with others, to `files`, and where a metric goes to `route`.
+/// a configuration file, with others, to `files`, where a metric goes to `route`, and what a watch says to `watch`.
 pub(crate) fn check_answer(command: AdminCommand, answer: &[u8]) -> Result<(), AdminFault>
     ensures ok { OnOk result (IsAnswerTo command answer.now) }
     ensures whole { OnOk result (is_whole answer.now ≡ true) }
@@ -35,6 +36,7 @@ pub(crate) fn check_answer(command: AdminCommand, answer: &[u8]) -> Result<(), A
         AdminCommand::Reload => check_reload(answer),
         AdminCommand::Files => check_files(answer),
         AdminCommand::Route => check_route(answer),
+        AdminCommand::Watch => check_watch(answer),
     }
 }
 
@@ -90,6 +92,27 @@ fn check_route(answer: &[u8]) -> Result<(), AdminFault>
         }
         None => Err(AdminFault::NoRelay),
     }
+}
+
+/// Refuses what no watch answers, and an answer whose last line has no end.
+fn check_watch(answer: &[u8]) -> Result<(), AdminFault>
+    ensures ok { OnOk result (IsAnswerTo AdminCommand.Watch answer.now) }
+    ensures whole { OnOk result (is_whole answer.now ≡ true) }
+{
+    match watch_answer_in(answer) {
+        Some(_) if answer.ends_with(b"\n") => Ok(()),
+        Some(_) => Err(AdminFault::CutOff),
+        None if begins_watch(answer) => Err(AdminFault::CutOff),
+        None => Err(AdminFault::NoRelay),
+    }
+}
+
+/// Whether the first words of an answer to `watch` begin so.
+fn begins_watch(answer: &[u8]) -> bool {
+    WATCHING.starts_with(answer)
+        || WATCHED.starts_with(answer)
+        || WATCH_REFUSED.starts_with(answer)
+        || WATCH_OVER.starts_with(answer)
 }
 
 /// Refuses what has a line that is not of a destination, and one without its end.

@@ -4,7 +4,7 @@ ghost use Rattle.std.specs.Prelude.{◌≡◌, ◌<◌, ◌≤◌, None, Some, l
 ghost use Rattle.std.specs.List.{position};
 ghost use Rattle.std.specs.Io.BufRead.{strip_last};
 ghost use Rattle.relay_base.specs.Ascii.{carriage_return};
-ghost use Rattle.admin_client.specs.AdminCommand.{is_newline, first_line, command_text, command_of, command_in, routed_by, routed_name};
+ghost use Rattle.admin_client.specs.AdminCommand.{is_newline, first_line, command_text, command_of, command_in, routed_by, routed_name, watched_by, asked_of_watch};
 ghost use Rattle.admin_client.specs.AdminKey.{words_of};
 
 use crate::reload_answer::behind;
@@ -12,11 +12,14 @@ use crate::reload_answer::behind;
 /// How many bytes the text of a command has at most; a longer one is none.
 pub const LONGEST_COMMAND: usize = LONGEST_ROUTED + 6;
 
-/// How many bytes a name has at most that is asked for.
+/// How many bytes a name has at most that is asked for, and what is asked of a watch.
 pub const LONGEST_ROUTED: usize = 4_096;
 
 /// The words before a name that is asked for.
 const ROUTE: &[u8] = b"route ";
+
+/// The words before what is asked of a watch.
+const WATCH: &[u8] = b"watch ";
 
 /// The answer to `stop`.
 pub const STOPPING: &[u8] = b"stopping\n";
@@ -37,10 +40,12 @@ pub enum AdminCommand {
     Files,
     /// Where the relay sends a metric of the name behind the word.
     Route,
+    /// The datapoints that pass: a watch is opened, asked or ended, as the text behind the word says.
+    Watch,
 }
 
 impl AdminCommand {
-    /// The words that ask for it; behind those of `Route` comes a name.
+    /// The words that ask for it; behind those of `Route` comes a name, and behind those of `Watch` what is asked.
     pub(crate) fn words(self) -> &'static [u8]
         ensures { result.now ≡ words_of self }
     {
@@ -50,6 +55,7 @@ impl AdminCommand {
             AdminCommand::Reload => b"reload".as_slice(),
             AdminCommand::Files => b"files".as_slice(),
             AdminCommand::Route => ROUTE,
+            AdminCommand::Watch => WATCH,
         }
     }
 }
@@ -83,6 +89,8 @@ fn command_of(text: &[u8]) -> Option<AdminCommand>
         Some(AdminCommand::Files)
     } else if routed_by(text).is_some() {
         Some(AdminCommand::Route)
+    } else if watched_by(text).is_some() {
+        Some(AdminCommand::Watch)
     } else {
         None
     }
@@ -101,12 +109,32 @@ fn routed_by(text: &[u8]) -> Option<&[u8]>
     Some(name)
 }
 
+/// What a text asks of a watch, if it does and that is not too long.
+fn watched_by(text: &[u8]) -> Option<&[u8]>
+    ensures { MatchOption result (watched_by text.now ≡ None)
+        (λ asked. watched_by text.now ≡ Some asked.now) }
+{
+    let asked = behind(WATCH, text)?;
+    if asked.len() > LONGEST_ROUTED {
+        return None;
+    }
+    Some(asked)
+}
+
 /// The name of which was asked where it goes, if that was sent.
 pub fn routed_name(sent: &[u8]) -> Option<&[u8]>
     ensures { MatchOption result (routed_name sent.now ≡ None)
         (λ name. routed_name sent.now ≡ Some name.now) }
 {
     routed_by(first_line_of(sent))
+}
+
+/// What was asked of a watch, if that was sent.
+pub fn asked_of_watch(sent: &[u8]) -> Option<&[u8]>
+    ensures { MatchOption result (asked_of_watch sent.now ≡ None)
+        (λ asked. asked_of_watch sent.now ≡ Some asked.now) }
+{
+    watched_by(first_line_of(sent))
 }
 
 /// The bytes up to the first byte 10, or all.

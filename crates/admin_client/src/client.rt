@@ -69,6 +69,20 @@ pub fn route_answer_to<R: Net + Clock>(
     answer_about(rt, alloc, relay, AdminCommand::Route, name)
 }
 
+/// Asks something of a watch of a relay ([`push_watch`](crate::push_watch)), and returns its answer, which `watch_answer_in`
+/// reads. It refuses what [`answer_to`] refuses.
+pub fn watch_answer_to<R: Net + Clock>(
+    rt: &R,
+    alloc: Global,
+    relay: RelayAt<'_>,
+    asked: &[u8],
+) -> Result<Vec<u8>, AdminFault>
+    ensures ok { IfOk result (λ answer. IsAnswerTo AdminCommand.Watch answer.items) }
+    ensures whole { IfOk result (λ answer. is_whole answer.items ≡ true) }
+{
+    answer_about(rt, alloc, relay, AdminCommand::Watch, asked)
+}
+
 /// Sends a command to a relay, and returns its answer. That to `reload` may take about a minute, and `reload_answer_in` reads
 /// it; `reload_files_in` reads that to `files`.
 ///

@@ -4,7 +4,7 @@ ghost use Rattle.std.specs.Prelude.{◌≤◌, length};
 
 use admin_client::{
     AdminCommand, Asked, LONGEST_COMMAND, LONGEST_KEY, RELOADED, STOPPING, UNKNOWN_COMMAND,
-    WRONG_KEY, asked_in, behind_key, routed_name,
+    WRONG_KEY, asked_in, asked_of_watch, behind_key, routed_name,
 };
 use mio::net::TcpStream;
 use mio_loops::exchange::{MOST_TRIES, PATIENCE_MS, Transfer, read_away};
@@ -83,7 +83,7 @@ pub(crate) enum Answer {
     Reloaded,
     /// There is no memory for a reload.
     NoMemory,
-    /// The counts of each destination's queue, what became of a reload, or where a name goes.
+    /// The counts of each destination's queue, what became of a reload, where a name goes, or what a watch says.
     Text(Vec<u8>),
 }
 
@@ -188,6 +188,11 @@ impl AdminConnection {
     /// The name of which it has asked where that goes.
     pub(crate) fn routed_name(&self) -> Option<&[u8]> {
         routed_name(behind_key(&self.room[..self.count.min(COMMAND_ROOM)]))
+    }
+
+    /// What it has asked of a watch.
+    pub(crate) fn asked_of_watch(&self) -> Option<&[u8]> {
+        asked_of_watch(behind_key(&self.room[..self.count.min(COMMAND_ROOM)]))
     }
 
     /// Whether it has asked for a reload, which has not begun.

@@ -40,6 +40,10 @@ pub trait Answers<R> {
     /// The answer to `route` with this text as the name; an empty one if it is no metric name. Refuses if out of memory.
     fn route(&mut self, alloc: Global, name: &[u8]) -> Result<Vec<u8>, NoMemory>;
 
+    /// The answer to `watch` with this text, at these milliseconds; an empty one if it asks nothing of a watch. Refuses if out of
+    /// memory.
+    fn watch(&mut self, alloc: Global, asked: &[u8], millis: u64) -> Result<Vec<u8>, NoMemory>;
+
     /// The key that each command needs, if there is one.
     fn key(&self) -> Option<&[u8]>;
 }
@@ -510,7 +514,7 @@ fn go_on<R, A: Answers<R>>(
     let Progress::Asks(asked) = progress else {
         return progress;
     };
-    let Some(answer) = answer_to(connection, rt, alloc, answers, asked) else {
+    let Some(answer) = answer_to(connection, rt, alloc, answers, asked, millis) else {
         return Progress::Over;
     };
     connection.begin_answer(answer, millis);
@@ -529,6 +533,7 @@ fn answer_to<R, A: Answers<R>>(
     alloc: Global,
     answers: &mut A,
     asked: Asked,
+    millis: u64,
 ) -> Option<Answer> {
     let command = match asked {
         Asked::Command(command) => command,
@@ -543,6 +548,10 @@ fn answer_to<R, A: Answers<R>>(
         AdminCommand::Files => text_or_unknown(answers.files(alloc)),
         AdminCommand::Route => match connection.routed_name() {
             Some(name) => text_or_unknown(answers.route(alloc, name)),
+            None => Some(Answer::UnknownCommand),
+        },
+        AdminCommand::Watch => match connection.asked_of_watch() {
+            Some(asked) => text_or_unknown(answers.watch(alloc, asked, millis)),
             None => Some(Answer::UnknownCommand),
         },
         AdminCommand::Stop => Some(Answer::Stopping),

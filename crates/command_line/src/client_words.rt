@@ -1,7 +1,7 @@
-//! The words of the commands for a running relay: `report`, `stop`, `restart` and `reload`; and of the relay that `route` asks.
+//! The words of the commands for a running relay: `report`, `watch`, `stop`, `restart` and `reload`; and of the relay that `route` asks.
 
 use crate::commands::{EXPLAIN, FILES, JSON};
-use crate::long_help::{RELOAD_HELP, REPORT_HELP, RESTART_HELP, STOP_HELP};
+use crate::long_help::{RELOAD_HELP, REPORT_HELP, RESTART_HELP, STOP_HELP, WATCH_HELP};
 use crate::options::{check_paths, path_option};
 use crate::words::{CommandWords, Form, Word};
 use clap::{ArgMatches, Error};
@@ -16,6 +16,46 @@ pub(crate) static REPORT: CommandWords = CommandWords {
     long_help: REPORT_HELP,
     files: &[],
     words: &[ADMIN, ADMIN_KEY, JSON],
+    choices: &[],
+};
+
+/// The words that `relayd watch` takes.
+pub(crate) static WATCH: CommandWords = CommandWords {
+    name: "watch",
+    full_name: "relayd watch",
+    about: "Shows datapoints as they pass through a running relay, or counts them by their names",
+    long_help: WATCH_HELP,
+    files: &[],
+    words: &[
+        ADMIN,
+        ADMIN_KEY,
+        Word {
+            name: "dest",
+            form: Form::ValueWithout("DESTINATION", "names"),
+            help: "Shows only what goes to this destination, written as in DESTINATIONS",
+        },
+        Word {
+            name: "names",
+            form: Form::ValueWithout("N", "pattern"),
+            help: "Counts datapoints by the first N parts of their names, 1 to 64, and shows the greatest",
+        },
+        Word {
+            name: "lines",
+            form: Form::Value("N"),
+            help: "Ends after N datapoints, or shows the N greatest (by default 20), 1 to 1000000",
+        },
+        Word {
+            name: "seconds",
+            form: Form::ValueOr("SECONDS", "60"),
+            help: "Ends after SECONDS, 1 to 3600",
+        },
+        JSON,
+        Word {
+            name: "pattern",
+            form: Form::Bare("PATTERN"),
+            help: "A regular expression to find in the name of a datapoint, before or after rewriting",
+        },
+    ],
     choices: &[],
 };
 

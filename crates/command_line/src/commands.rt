@@ -1,6 +1,6 @@
 //! The words that `relayd` and each of its commands take, with their help.
 
-use crate::client_words::{ADMIN_KEY, RELOAD, REPORT, RESTART, STOP};
+use crate::client_words::{ADMIN_KEY, RELOAD, REPORT, RESTART, STOP, WATCH};
 use crate::long_help::{CHECK_HELP, PASS_HELP, RELAYD_HELP, REPLAY_HELP, ROUTE_HELP, RUN_HELP};
 use crate::words::{Choice, CommandWords, Form, Word};
 use clap::Command;
@@ -24,7 +24,7 @@ pub fn relayd_command<'a>(alloc: Global) -> Result<Command<'a>, AllocError> {
 fn subcommands<'a>(alloc: Global) -> Result<Vec<Command<'a>>, AllocError> {
     let mut commands = Vec::new(alloc);
     for words in [
-        &PASS, &CHECK, &ROUTE, &REPLAY, &RUN, &REPORT, &STOP, &RESTART, &RELOAD,
+        &PASS, &CHECK, &ROUTE, &REPLAY, &RUN, &REPORT, &WATCH, &STOP, &RESTART, &RELOAD,
     ] {
         commands.push(words.command(alloc)?)?;
     }
@@ -216,7 +216,7 @@ pub(crate) static RUN: CommandWords = CommandWords {
         Word {
             name: "admin",
             form: Form::NeededValue("PORT"),
-            help: "The port on 127.0.0.1 for report, stop, restart and reload, 1 to 65535",
+            help: "The port on 127.0.0.1 for report, watch, stop, restart and reload, 1 to 65535",
         },
         ADMIN_KEY,
         Word {

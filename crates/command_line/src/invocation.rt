@@ -1,6 +1,6 @@
 //! What the words of a command line ask for.
 
-use crate::client_words::{AdminAt, RELOAD, REPORT, RESTART, STOP, admin_at, admin_option};
+use crate::client_words::{AdminAt, RELOAD, REPORT, RESTART, STOP, WATCH, admin_at, admin_option};
 use crate::commands::{CHECK, REPLAY, ROUTE, RUN, relayd_command};
 use crate::explain::Explain;
 use crate::options::{explain_option, moment_option, path_option, path_options, text_option};
@@ -10,6 +10,7 @@ use crate::paths::Paths;
 use crate::run_options::{RunOptions, run_options};
 use crate::standard_input::{CONFIGURATION_FILES, REPLAY_FILES, ROUTE_FILES, check_inputs};
 use crate::tips::with_tip;
+use crate::watch_options::{Watching, watching_of};
 use clap::error::ErrorKind;
 use clap::{ArgMatches, Error};
 use line_text::Moment;
@@ -86,6 +87,11 @@ pub enum Invocation {
         admin: AdminAt,
         form: OutputForm,
     },
+    /// `watch`: datapoints that pass through the relay with this admin port, or the first parts of their names.
+    Watch {
+        admin: AdminAt,
+        watching: Watching,
+    },
     /// `stop`: the end of the relay with this admin port, and whether to wait for it.
     Stop {
         admin: AdminAt,
@@ -134,6 +140,7 @@ fn invocation_of(alloc: Global, matches: &ArgMatches<'_>) -> Result<Invocation, 
         Some(("replay", options)) => replay_invocation(alloc, options),
         Some(("run", options)) => run_invocation(alloc, options),
         Some(("report", options)) => report_invocation(alloc, options),
+        Some(("watch", options)) => watch_invocation(alloc, options),
         Some(("stop", options)) => stop_invocation(alloc, options),
         Some(("restart", options)) => restart_invocation(alloc, options),
         Some(("reload", options)) => reload_invocation(alloc, options),
@@ -186,6 +193,13 @@ fn report_invocation(alloc: Global, options: &ArgMatches<'_>) -> Result<Invocati
     Ok(Invocation::Report {
         admin: admin_at(alloc, options, &REPORT)?,
         form: form_option(options),
+    })
+}
+
+fn watch_invocation(alloc: Global, options: &ArgMatches<'_>) -> Result<Invocation, Error> {
+    Ok(Invocation::Watch {
+        admin: admin_at(alloc, options, &WATCH)?,
+        watching: watching_of(alloc, options)?,
     })
 }
 

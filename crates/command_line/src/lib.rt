@@ -25,6 +25,7 @@ mod run_options;
 mod senders;
 mod standard_input;
 mod tips;
+mod watch_options;
 mod words;
 
 pub use client_words::AdminAt;
@@ -38,3 +39,4 @@ pub use paths::Paths;
 pub use run_options::RunOptions;
 pub use senders::Senders;
 pub use standard_input::STANDARD_INPUT;
+pub use watch_options::{WatchWanted, Watching};

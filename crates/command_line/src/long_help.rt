@@ -87,6 +87,20 @@ pub const REPORT_HELP: &str = "Examples:
 
 Exit status: 0 the relay answered; 3 no relay listens on the port.";
 
+/// Of `relayd watch`.
+pub const WATCH_HELP: &str = "Examples:
+    relayd watch --admin 2015 '^servers\\.web01\\.'
+    relayd watch --admin 2015 --dest 10.0.0.5:2004 --lines 20
+    relayd watch --admin 2015 --names 2 --seconds 10
+
+A line has, with tabs between them: the receiver, the address of the producer, the line as it was read,
+the name after rewriting (or `dropped`), and each destination with what became of it there, kept or
+dropped. At most 1000 a second are shown; what is not is counted, and said at the end. One at a time may
+watch, who sees what producers send.
+
+Exit status: 0 success; 1 PATTERN or DESTINATION has a fault; 3 another one watches, no relay listens on
+the port, or it ended.";
+
 /// Of `relayd stop`.
 pub const STOP_HELP: &str = "Example:
     relayd stop --admin 2015 --wait

@@ -113,6 +113,11 @@ impl DatagramSocket {
         Ok(Arc::try_clone(&self.control)?)
     }
 
+    /// The address from which the last datagram came.
+    pub fn sender(&self) -> IpAddr {
+        self.from.to_canonical()
+    }
+
     /// Takes the next datagram, and remembers from which address.
     fn receive_from(&mut self, buffer: &mut [u8]) -> io::Result<usize>
         ensures { ReadsAtMost result buffer.new }

@@ -86,6 +86,14 @@ impl HeldStream {
         }
     }
 
+    /// Behind how many bytes the line or the frame ends that has begun: 0 if none has, and `usize::MAX` if that is not known.
+    pub fn lacks(&self) -> usize {
+        match self.progress {
+            Progress::Line { held: 0 } => 0,
+            progress => progress.begun_frame().lacks,
+        }
+    }
+
     /// Notes what the connection has sent. Refuses a long word while memory is short.
     fn note_piece(&mut self, piece: &[u8]) -> io::Result<()> {
         if piece.is_empty() {

@@ -196,6 +196,11 @@ impl StreamListener {
         self.handed = Some(handed);
     }
 
+    /// The address of the connection of a token, or of the last that it had.
+    pub fn peer(&self, token: Token) -> IpAddr {
+        self.producers.peer(token)
+    }
+
     /// Takes the next connection that was handed over, if there is one, and watches it under the token. Without a token it is
     /// closed.
     fn resume(&mut self, token: Option<Token>) -> AcceptOutcome<HeldStream>

@@ -6,13 +6,15 @@ use queue_records::MOST_SENDERS;
 use relay_base::MOST_LINE_RECEIVERS;
 use std::net::SocketAddr;
 
-/// Where a status server listens, and the version of the program that it shows.
+/// Where a status server listens, the version of the program that it shows, and whether the admin port has a key.
 #[derive(Clone, Copy)]
 pub struct StatusOptions {
     /// The address and the port.
     pub address: SocketAddr,
     /// The version.
     pub version: &'static str,
+    /// Whether the admin port has a key.
+    pub has_key: bool,
 }
 
 /// How a relay runs, apart from its files.

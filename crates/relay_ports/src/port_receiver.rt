@@ -4,12 +4,15 @@ ghost use Rattle.std.specs.Prelude.{◌≡◌, ◌≤◌, ◌<◌, length};
 ghost use Rattle.receivers.specs.Record.{EndsFor};
 
 use crate::inlet::Inlet;
-use crate::ready_datagrams::ReadyDatagrams;
-use crate::shared_listener::{Share, SharedListener};
-use mio_loops::SystemTimes;
+use crate::port_datagrams::PortDatagrams;
+use crate::port_listener::{PortListener, PortNotes};
+use crate::share::Share;
+use live_watch::{NotesOffers, PieceOffers, ReceiverName, Tap, WatchPlace, WatchedDoor};
+use mio_loops::{StopFlag, SystemTimes, TimeSource};
 use queue_records::Door;
-use reader_core::ReaderKind;
-use receivers::{ReceiverRecord, receive_datagrams, receive_streams};
+use receivers::{
+    DatagramSocket, ReceiverRecord, StreamListener, receive_datagrams, receive_streams,
+};
 use router::Plan;
 use run_state::{BeginNote, EndOrders, Signals};
 use std::alloc::Global;
@@ -28,6 +31,8 @@ pub struct PortReceiver<'d> {
     pub share: Share<'d>,
     /// They say when a receiver of datagrams stops.
     pub orders: &'d EndOrders,
+    /// Where it hands over what it notes for a watch.
+    pub watch: &'d WatchPlace,
     /// Since when the milliseconds of a run count.
     pub began: Option<Instant>,
     ghost few: { number < 8 },
@@ -51,27 +56,126 @@ impl PortReceiver<'_> {
             number,
             share,
             orders,
+            watch,
             began,
         } = self;
         let times = SystemTimes::since(rt, began);
-        let note = BeginNote::new(signals);
+        let tap = Tap::new(watch);
+        let (name, share) = known_of(&inlet, share);
+        let notes = PortNotes {
+            name,
+            share,
+            begin: BeginNote::new(signals),
+            tap: &tap,
+        };
+        let door = WatchedDoor::new(door, PieceOffers::of(&tap));
         let stop = signals.receivers();
-        match inlet {
-            Inlet::Lines(listener, _) => {
-                let listener = SharedListener::new(listener, share, note);
-                let kind = ReaderKind::Line;
-                receive_streams(rt, alloc, listener, kind, number, plan, door, &times, stop)
+        let left = match inlet {
+            Inlet::Lines(source, _) | Inlet::Pickles(source) => {
+                let inflow = Inflow {
+                    alloc,
+                    source,
+                    number,
+                    notes,
+                };
+                receive_connections(rt, inflow, plan, door, &times, stop)
             }
-            Inlet::Pickles(listener) => {
-                let listener = SharedListener::new(listener, Share::none(), note);
-                let kind = ReaderKind::Pickle;
-                receive_streams(rt, alloc, listener, kind, number, plan, door, &times, stop)
+            Inlet::Datagrams(source) => {
+                let inflow = Inflow {
+                    alloc,
+                    source,
+                    number,
+                    notes,
+                };
+                receive_noted(rt, inflow, plan, door, &times, orders.datagrams())
             }
-            Inlet::Datagrams(socket) => {
-                let socket = ReadyDatagrams::new(socket, note);
-                let stop = orders.datagrams();
-                receive_datagrams(rt, alloc, socket, number, plan, door, &times, stop)
-            }
-        }
+        };
+        without_watch(left)
+    }
+}
+
+/// The name of the receiver of an inlet, and how it shares its port: of receivers of lines in this way.
+fn known_of<'s>(inlet: &Inlet, share: Share<'s>) -> (ReceiverName, Share<'s>) {
+    match inlet {
+        Inlet::Lines(..) if share.held.len() > 1 => (ReceiverName::LineOf(share.own), share),
+        Inlet::Lines(..) => (ReceiverName::Line, share),
+        Inlet::Pickles(_) => (ReceiverName::Pickle, Share::none()),
+        Inlet::Datagrams(_) => (ReceiverName::Datagram, Share::none()),
+    }
+}
+
+/// A source of a receiver of a number, and what is known of the receiver.
+#[derive(Drop)]
+struct Inflow<'s, S> {
+    alloc: Global,
+    source: S,
+    number: usize,
+    notes: PortNotes<'s>,
+    ghost few: { number < 8 },
+}
+
+/// Receives what connections send.
+fn receive_connections<
+    's,
+    R: Wait,
+    N: NotesOffers + Drop,
+    D: Door + Drop,
+    T: TimeSource,
+    F: StopFlag,
+>(
+    rt: &R,
+    inflow: Inflow<'s, StreamListener>,
+    plan: Plan,
+    door: WatchedDoor<N, D>,
+    times: &T,
+    stop: &F,
+) -> ReceiverRecord<WatchedDoor<N, D>>
+    requires dests { plan.destinations ≤ length (D.record_of door.door).totals }
+    ensures { EndsFor result.fault result.log (D.record_of door.door) (D.record_of result.door.door) }
+{
+    let Inflow {
+        alloc,
+        source,
+        number,
+        notes,
+    } = inflow;
+    let kind = notes.name.kind();
+    let listener = PortListener::new(source, notes);
+    receive_streams(rt, alloc, listener, kind, number, plan, door, times, stop)
+}
+
+/// Receives datagrams.
+fn receive_noted<'s, R: Wait, N: NotesOffers + Drop, D: Door + Drop, T: TimeSource, F: StopFlag>(
+    rt: &R,
+    inflow: Inflow<'s, DatagramSocket>,
+    plan: Plan,
+    door: WatchedDoor<N, D>,
+    times: &T,
+    stop: &F,
+) -> ReceiverRecord<WatchedDoor<N, D>>
+    requires dests { plan.destinations ≤ length (D.record_of door.door).totals }
+    ensures { EndsFor result.fault result.log (D.record_of door.door) (D.record_of result.door.door) }
+{
+    let Inflow {
+        alloc,
+        source,
+        number,
+        notes,
+    } = inflow;
+    let socket = PortDatagrams::new(source, notes);
+    receive_datagrams(rt, alloc, socket, number, plan, door, times, stop)
+}
+
+/// What a receiver leaves, with the door that is behind the one whose offers were noted.
+fn without_watch<N: Drop, D: Door>(left: ReceiverRecord<WatchedDoor<N, D>>) -> ReceiverRecord<D>
+    ensures door { result.door ≡ left.door.door }
+    ensures log { result.log ≡ left.log }
+    ensures fault { result.fault ≡ left.fault }
+{
+    let ReceiverRecord { door, log, fault } = left;
+    ReceiverRecord {
+        door: door.into_door(),
+        log,
+        fault,
     }
 }

@@ -14,6 +14,7 @@ use crate::start::Process;
 use admin_port::{AdminListener, Answers};
 use admin_report::{FileCounts, ReportLine, report_with_files};
 use finished_run::Recorder;
+use live_watch::WatchDesk;
 use locked_queues::{Queues, Set};
 use mio_loops::{SystemTimes, TimeSource};
 use receivers::{ClosingWait, ReceiverControl};
@@ -36,27 +37,33 @@ const PAUSE_MS: u64 = 1_000;
 /// How many milliseconds a turn waits at most while the files of a reload are read.
 const READING_PAUSE_MS: u64 = 1;
 
+/// How many milliseconds a turn waits at most while somebody watches: so long what receivers hand over has room.
+const WATCHING_PAUSE_MS: u64 = 5;
+
 /// How many milliseconds a turn waits at most at the end of a run: so late is seen what it waits for.
 const END_PAUSE_MS: u64 = 1;
 
-/// What answers are made of: the queues of a relay with their destinations, the names of its files, and its routes.
+/// What answers are made of: the queues of a relay with their destinations, the names of its files, its routes, and who opens
+/// watches.
 #[derive(Drop)]
 struct ReportSource<'x, B: Set, F> {
     queues: &'x Queues<B>,
     noted: DestSources<'x>,
     files: &'x F,
     routes: LiveRoutes<'x>,
+    desk: WatchDesk<'x>,
     ghost all: { length noted.dests.now ≡ B.dests },
 }
 
 impl<'x, B: Set, F> ReportSource<'x, B, F> {
-    /// The queues of a relay, its files and its routes.
-    fn new(relay: &'x Relay<B>, files: &'x F) -> ReportSource<'x, B, F> {
+    /// The queues of a relay, its files and its routes. A run that ends opens no watch.
+    fn new(relay: &'x Relay<B>, files: &'x F, is_ending: bool) -> ReportSource<'x, B, F> {
         ReportSource {
             queues: &relay.queues,
             noted: relay.noted(),
             files,
             routes: LiveRoutes::new(&relay.configuration),
+            desk: desk_of(relay, is_ending),
         }
     }
 
@@ -74,6 +81,16 @@ impl<'x, B: Set, F> ReportSource<'x, B, F> {
             add(&mut lines, line)?;
         }
         Ok(lines)
+    }
+}
+
+/// Who opens the watches of a relay. A run that ends opens none.
+fn desk_of<B: Set>(relay: &Relay<B>, is_ending: bool) -> WatchDesk<'_> {
+    let configuration = &relay.configuration;
+    if is_ending {
+        WatchDesk::closed(configuration, &relay.watches)
+    } else {
+        WatchDesk::new(configuration, &relay.watches, relay.shape.receivers)
     }
 }
 
@@ -105,6 +122,10 @@ impl<'x, B: Set, F: ReloadSource, R: Wait + Clock> Answers<R> for ReportSource<'
             Some(answer) => Ok(answer.into_bytes()),
             None => Ok(Vec::new(alloc)),
         }
+    }
+
+    fn watch(&mut self, alloc: Global, asked: &[u8], millis: u64) -> Result<Vec<u8>, NoMemory> {
+        self.desk.answer(alloc, asked, millis)
     }
 
     fn key(&self) -> Option<&[u8]> {
@@ -198,16 +219,30 @@ fn answer_until_ended<B: Set, R: Wait + Clock + Net + SpoolDisk + Threads, F: Re
     files: &F,
     folder: Option<SpoolFolder<'_>>,
 ) -> Option<PreparedRun<B>> {
-    let mut watched = ReportSource::new(relay, files);
+    let mut watched = ReportSource::new(relay, files, false);
+    let next = answer_with(rt, alloc, relay, ports, &mut watched, folder);
+    watched.desk.end();
+    next
+}
+
+/// Answers commands by these answers until one is `stop`, or until another run is ready to follow, which is returned.
+fn answer_with<B: Set, R: Wait + Clock + Net + SpoolDisk + Threads, F: ReloadSource>(
+    rt: &R,
+    alloc: Global,
+    relay: &Relay<B>,
+    ports: &mut FirstPorts,
+    watched: &mut ReportSource<'_, B, F>,
+    folder: Option<SpoolFolder<'_>>,
+) -> Option<PreparedRun<B>> {
     let times = SystemTimes::since(rt, relay.began);
+    let files = watched.files;
     let mut reading = None;
     for _ in rt.forever() {
         let millis = times.millis();
         say_refusals(rt, alloc, relay, ports, millis);
-        if ports
-            .admin
-            .take_turn(rt, alloc, &mut watched, millis, pause_of(reading))
-        {
+        watched.desk.drain(alloc, millis, times.moment());
+        let pause = pause_of(reading, watched.desk.is_watching());
+        if ports.admin.take_turn(rt, alloc, watched, millis, pause) {
             if let Some(begun) = reading {
                 ports.admin.refuse_reload(begun.connection, millis);
             }
@@ -261,9 +296,10 @@ fn say_last_refusals<B: Set, R: Wait>(
 }
 
 /// How many milliseconds a turn waits at most.
-fn pause_of(reading: Option<Reading>) -> u64 {
+fn pause_of(reading: Option<Reading>, is_watching: bool) -> u64 {
     match reading {
         Some(_) => READING_PAUSE_MS,
+        None if is_watching => WATCHING_PAUSE_MS,
         None => PAUSE_MS,
     }
 }
@@ -498,7 +534,7 @@ fn answer_until_over<R: Wait + Clock + Net, B: Set, F: ReloadSource, E: EndWait<
     wait: E,
 ) {
     let mut wait = wait;
-    let mut watched = ReportSource::new(relay, files);
+    let mut watched = ReportSource::new(relay, files, true);
     let times = SystemTimes::since(rt, relay.began);
     for _ in rt.forever() {
         let millis = times.millis();

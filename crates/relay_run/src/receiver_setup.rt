@@ -155,6 +155,7 @@ fn receiver_job<'x, B: Set, R: RelayRuntime>(
         number: receiver,
         share,
         orders: &relay.orders,
+        watch: relay.watches.of(receiver),
         began: relay.began,
     };
     ReceiverJob {

@@ -8,6 +8,7 @@ use crate::shape::Shape;
 use crate::shared_parts::SharedParts;
 use crate::start::{Process, Start};
 use finished_run::{FinishedRun, ThreadLogs};
+use live_watch::WatchPlaces;
 use locked_queues::{
     DoorSeat, MOST_RECEIVERS, Opened, OutletSeat, Queues, Set, SettleFault, Settled,
 };
@@ -30,7 +31,7 @@ pub(crate) const NAME: u64 = 1;
 /// What a run is made of, and its threads borrow: its configuration and its numbers, its queues, the gate that wakes the
 /// senders, and what the threads share beside these; the orders that some get at the end; what is left for destinations
 /// between two runs, and for those that are gone, with what wakes their sender; the connections that go from one run to the
-/// next; and what the first thread has for the log.
+/// next; what the first thread has for the log; and where receivers hand over what they note for a watch.
 #[derive(Drop)]
 pub(crate) struct Relay<B: Set> {
     pub(crate) configuration: RunConfiguration,
@@ -44,6 +45,7 @@ pub(crate) struct Relay<B: Set> {
     pub(crate) gone_gate: WakeGate,
     pub(crate) streams: Vec<Arc<HandedStreams>>,
     pub(crate) late_news: LateNews,
+    pub(crate) watches: WatchPlaces,
     // Since when its milliseconds count, whether no run was before, and the system's limit for the size of a file.
     pub(crate) began: Option<Instant>,
     pub(crate) is_first: bool,
@@ -242,6 +244,7 @@ fn open_relay<B: Set, L: Drop>(
             gone_gate,
             streams,
             late_news: LateNews::none(),
+            watches: WatchPlaces::new(),
             began: process.began,
             is_first,
             file_limit: process.file_limit(),

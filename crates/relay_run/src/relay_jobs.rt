@@ -103,6 +103,7 @@ fn watching_of<'x, B: Set, R, L: Write + Drop>(
         size: relay.shape.size,
         version: relay.shape.version(),
         configuration: relay.configuration.sum(),
+        watched_at: relay.shape.watched_at(),
         began: relay.began,
     };
     watchers_of(maker.alloc, &watched, logs, news, log, status)

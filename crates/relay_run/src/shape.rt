@@ -8,6 +8,7 @@ use finished_run::RunShape;
 use locked_queues::{MOST_RECEIVERS, MOST_SENDERS};
 use relay_base::{LARGEST_MESSAGE, LARGEST_QUEUE_SIZE, MOST_DESTINATIONS};
 use relay_ports::StatusOptions;
+use relay_watchers::WatchedAt;
 
 /// The numbers of receivers and senders, and how they run.
 #[derive(Clone, Copy)]
@@ -20,6 +21,7 @@ pub(crate) struct Shape {
     pub(crate) line_receivers: usize,
     pub(crate) drain_seconds: u64,
     pub(crate) idle_seconds: u64,
+    pub(crate) admin: u16,
     pub(crate) status: Option<StatusOptions>,
     /// Whether the threads return what they logged.
     pub(crate) is_recorded: bool,
@@ -33,6 +35,17 @@ impl Shape {
         match self.status {
             Some(status) => status.version,
             None => "",
+        }
+    }
+
+    /// How datapoints are watched, as the status shows it.
+    pub(crate) fn watched_at(&self) -> WatchedAt {
+        WatchedAt {
+            admin: self.admin,
+            has_key: match self.status {
+                Some(status) => status.has_key,
+                None => false,
+            },
         }
     }
 
@@ -72,6 +85,7 @@ pub(crate) fn shape_of(settings: &Settings, ports: usize, process: &Process<'_>)
         line_receivers: options.line_receivers(),
         drain_seconds: options.drain(),
         idle_seconds: options.idle(),
+        admin: options.admin(),
         status: options.status(),
         is_recorded: process.is_recorded,
         is_spooled: process.folder.is_some(),

@@ -26,4 +26,5 @@ pub use log_job::{LogEnd, LogJob};
 pub use process::SystemFacts;
 pub use receiver_log::ReceiverLog;
 pub use status_job::{StatusJob, StatusServer};
+pub use status_page::WatchedAt;
 pub use watchers::{Watched, watchers_of};

@@ -16,8 +16,8 @@ use relay_base::DestId;
 use run_state::{DestSources, Signals, ThreadWork};
 use spool::{Waiting, clock_seconds};
 use status_page::{
-    ConnectionCounts, DestSnapshot, ReceiverSnapshot, Snapshot, SpoolSnapshot, push_json,
-    push_metrics, push_page,
+    ConnectionCounts, DestSnapshot, ReceiverSnapshot, Snapshot, SpoolSnapshot, WatchedAt,
+    push_json, push_metrics, push_page,
 };
 use status_server::{Page, StatusListener, StatusTexts};
 use std::alloc::{AllocError, Global};
@@ -34,7 +34,7 @@ const MOST_WAIT_MS: u64 = 20;
 const SUM_BYTES: usize = 6;
 
 /// What the status shows: these destinations, all of them, with this size of their queues, and these receivers; the version
-/// of the program, and the checksum of its configuration.
+/// of the program, the checksum of its configuration, and how datapoints are watched.
 #[derive(Drop)]
 pub(crate) struct StatusWatch<'x, B: Set> {
     pub(crate) queues: &'x Queues<B>,
@@ -43,6 +43,7 @@ pub(crate) struct StatusWatch<'x, B: Set> {
     pub(crate) receivers: Vec<WatchedReceiver>,
     pub(crate) version: &'static str,
     pub(crate) configuration: [u8; DIGEST_LEN],
+    pub(crate) watched_at: WatchedAt,
     ghost all: { length noted.dests.now ≡ B.dests },
 }
 
@@ -278,6 +279,7 @@ impl<B: Set, R: Wait + SystemFacts> StatusView<'_, '_, B, R> {
             other_producers: producers.others,
             sample_seconds: SAMPLE_SECONDS,
             samples: self.history.samples(self.alloc)?,
+            watched_at: watch.watched_at,
         })
     }
 }

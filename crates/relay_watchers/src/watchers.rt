@@ -10,13 +10,14 @@ use locked_queues::{Queues, Set};
 use md5::DIGEST_LEN;
 use relay_base::NoMemory;
 use run_state::{DestSources, GoneSources};
+use status_page::WatchedAt;
 use std::alloc::Global;
 use std::io::Write;
 use std::time::Instant;
 
 /// What the threads that watch a run watch: its queues and its destinations, all of them, those that are gone, what the first
-/// thread has for the log, the size of the queues, the version that the status shows, the checksum of the configuration, and
-/// since when the milliseconds of a run count.
+/// thread has for the log, the size of the queues, the version that the status shows, the checksum of the configuration, how
+/// datapoints are watched, and since when the milliseconds of a run count.
 #[derive(Clone, Copy)]
 pub struct Watched<'x, B: Set> {
     /// The queues.
@@ -33,6 +34,8 @@ pub struct Watched<'x, B: Set> {
     pub version: &'static str,
     /// The checksum of the configuration.
     pub configuration: [u8; DIGEST_LEN],
+    /// How datapoints are watched.
+    pub watched_at: WatchedAt,
     /// Since when the milliseconds of a run count.
     pub began: Option<Instant>,
 }
@@ -72,6 +75,7 @@ pub fn watchers_of<'x, B: Set, L: Write + Drop>(
         receivers: shown,
         version: watched.version,
         configuration: watched.configuration,
+        watched_at: watched.watched_at,
     };
     Ok((logging, status_at(server, watch, watched.began)))
 }

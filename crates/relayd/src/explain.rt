@@ -30,7 +30,10 @@ pub fn end_with_notes(
     let rt = files.runtime();
     let (paths, explain) = match invocation {
         // A reload has written its notes, of the files that the relay has named.
-        Invocation::Report { .. } | Invocation::Stop { .. } | Invocation::Reload { .. } => {
+        Invocation::Report { .. }
+        | Invocation::Watch { .. }
+        | Invocation::Stop { .. }
+        | Invocation::Reload { .. } => {
             return status;
         }
         Invocation::Pass {

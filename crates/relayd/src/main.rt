@@ -40,6 +40,8 @@ mod system_faults;
 mod watched_output;
 mod watched_reader;
 mod watched_route;
+mod watching;
+mod watching_output;
 mod words;
 
 use admin_key::key_at;
@@ -71,6 +73,7 @@ use std::rt::Clock;
 use std::sync::Wait;
 use std::thread::Threads;
 use watched_output::NoOutput;
+use watching::run_watch;
 
 /// The room for output between two writes, in bytes.
 const OUTPUT_ROOM: usize = 65_536;
@@ -199,7 +202,7 @@ where
                 threads,
                 alloc,
                 &mut sources_at(files, alloc, paths)?,
-                relay_options(*options),
+                relay_options(*options, admin_key.is_some()),
                 &mut limited_output(rt),
                 log_output(rt, alloc, *threads, options.log)?,
                 recorder,
@@ -213,6 +216,9 @@ where
             })
         }
         Invocation::Report { admin, form } => Ok(admin::report(rt, alloc, admin, *form)),
+        Invocation::Watch { admin, watching } => {
+            Ok(run_watch(rt, threads, alloc, admin, watching))
+        }
         Invocation::Stop { admin, waits } => Ok(admin::stop(rt, alloc, admin, *waits)),
         Invocation::Restart {
             paths,
@@ -238,8 +244,8 @@ fn handed_form(shows_text: bool) -> HandedForm {
     }
 }
 
-/// How a relay runs, by the words.
-fn relay_options(options: command_line::RunOptions) -> RunOptions {
+/// How a relay runs, by the words, whose admin port has a key or none.
+fn relay_options(options: command_line::RunOptions, has_key: bool) -> RunOptions {
     let relay = RunOptions::new(options.admin, options.senders.count())
         .with_line_receivers(options.line_receivers)
         .with_drain(options.drain)
@@ -248,6 +254,7 @@ fn relay_options(options: command_line::RunOptions) -> RunOptions {
         Some(address) => relay.with_status(StatusOptions {
             address,
             version: VERSION,
+            has_key,
         }),
         None => relay,
     }

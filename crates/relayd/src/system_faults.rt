@@ -191,7 +191,7 @@ fn count_descriptors(
     options: RunOptions,
     notes: &mut SystemNotes,
 ) -> Result<(), NoMemory> {
-    let needed = descriptors_needed(settings, relay_options(options));
+    let needed = descriptors_needed(settings, relay_options(options, false));
     // The datagrams' port is closed again here, and the admin port has nothing to wait with.
     let open = usize::from(settings.enable_udp_listener() && settings.udp_receiver_port() > 0);
     let most = needed.saturating_add(open).saturating_add(1);

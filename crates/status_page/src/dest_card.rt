@@ -3,16 +3,18 @@
 use crate::headline::{is_away, is_filling, is_flapping, is_losing, is_stuck};
 use crate::headline_text::{push_trouble, seconds_to_full};
 use crate::numbers::{push_count, push_duration, push_millis};
-use crate::snapshot::DestSnapshot;
+use crate::snapshot::{DestSnapshot, WatchedAt};
 use crate::spool_text::{is_waiting, push_waiting};
 use std::alloc::AllocError;
 use std::fmt::Write as _;
 
-/// Adds a destination, with what is wrong now, what its queue does, and what happened to its connection.
+/// Adds a destination, with what is wrong now, what its queue does, what happened to its connection, and how to see what goes
+/// there if some of it is lost.
 pub(crate) fn push_dest_card(
     text: &mut String,
     dest: &DestSnapshot,
     size: u64,
+    watched_at: WatchedAt,
 ) -> Result<(), AllocError> {
     let class = if is_losing(dest) || is_filling(dest, size) || is_stuck(dest) {
         "ill"
@@ -27,7 +29,28 @@ pub(crate) fn push_dest_card(
     push_rates(text, dest)?;
     push_spool(text, dest)?;
     push_connection(text, dest)?;
+    if is_losing(dest) {
+        push_command(text, dest, watched_at)?;
+    }
     text.push_str("</section>\n")
+}
+
+/// Adds the command that shows what goes to a destination.
+fn push_command(
+    text: &mut String,
+    dest: &DestSnapshot,
+    watched_at: WatchedAt,
+) -> Result<(), AllocError> {
+    let key = if watched_at.has_key {
+        " --admin-key FILE"
+    } else {
+        ""
+    };
+    write!(
+        text,
+        "<br>see what goes there: <code style=\"user-select:all\">relayd watch --admin {}{key} --dest {}</code>",
+        watched_at.admin, dest.dest
+    )
 }
 
 /// Adds what is wrong with it, in its own words.

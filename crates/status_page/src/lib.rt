@@ -31,5 +31,5 @@ pub use metrics::push_metrics;
 pub use page::push_page;
 pub use snapshot::{
     ConnectionCounts, DestSnapshot, OtherProducers, ProcessCounts, ProducerSnapshot, Rates,
-    ReceiverSnapshot, Sample, Snapshot, SpoolSnapshot,
+    ReceiverSnapshot, Sample, Snapshot, SpoolSnapshot, WatchedAt,
 };

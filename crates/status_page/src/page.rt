@@ -9,7 +9,7 @@ use crate::plain::plain;
 use crate::plot::push_plots;
 use crate::producer_table::push_producer_table;
 use crate::receiver_table::push_receiver_table;
-use crate::snapshot::{DestSnapshot, Snapshot};
+use crate::snapshot::Snapshot;
 use std::alloc::AllocError;
 use std::fmt::Write as _;
 
@@ -54,7 +54,7 @@ animation:late 0s 6s forwards}@keyframes late{to{max-height:20rem;padding:.7rem 
 pub fn push_page(text: &mut String, now: &Snapshot) -> Result<(), AllocError> {
     text.push_str(HEAD)?;
     push_top(text, now)?;
-    push_cards(text, now.dests.as_slice(), now.queue_size)?;
+    push_cards(text, now)?;
     push_dest_table(text, now.dests.as_slice(), now.queue_size)?;
     text.push_str("<h2>Receivers</h2>\n")?;
     push_receiver_table(text, now.receivers.as_slice())?;
@@ -104,11 +104,11 @@ fn push_icon(text: &mut String, headline: Headline) -> Result<(), AllocError> {
 }
 
 /// Adds a card for each destination with which something is wrong.
-fn push_cards(text: &mut String, dests: &[DestSnapshot], size: u64) -> Result<(), AllocError> {
+fn push_cards(text: &mut String, now: &Snapshot) -> Result<(), AllocError> {
     text.push_str("<div class=\"all\">\n")?;
-    for dest in dests {
-        if is_ill(dest, size) {
-            push_dest_card(text, dest, size)?;
+    for dest in now.dests.as_slice() {
+        if is_ill(dest, now.queue_size) {
+            push_dest_card(text, dest, now.queue_size, now.watched_at)?;
         }
     }
     text.push_str("</div>\n")

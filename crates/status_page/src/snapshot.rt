@@ -4,6 +4,15 @@ use conf_text::Dest;
 use dest_queue::Counts;
 use log_lines::{DestWrites, LossCounts, ProducerCounts, ReceiverCounts, ReceiverState, Why};
 
+/// How a datapoint is watched: the admin port of the relay, and whether it has a key.
+#[derive(Clone, Copy)]
+pub struct WatchedAt {
+    /// The admin port.
+    pub admin: u16,
+    /// Whether it has a key.
+    pub has_key: bool,
+}
+
 /// A running relay at a moment.
 #[derive(Drop)]
 pub struct Snapshot {
@@ -45,6 +54,8 @@ pub struct Snapshot {
     pub sample_seconds: u64,
     /// The samples of the last minutes, the oldest first.
     pub samples: Vec<Sample>,
+    /// How its datapoints are watched.
+    pub watched_at: WatchedAt,
 }
 
 /// What the system counts of a process.

@@ -1,84 +1,46 @@
-//! A listener that several receivers share.
+//! A listener of a port.
 
 ghost use Rattle.std.specs.Prelude.{◌≡◌, IfErr};
 
-use crate::shared_stream::SharedStream;
-use mio_loops::{MOST_CONNECTIONS, ReadTotals, ReadinessFault, Token};
+use crate::port_stream::PortStream;
+use crate::share::Share;
+use live_watch::{PieceHead, PieceStart, ReceiverName, Tap};
+use mio_loops::{ReadTotals, ReadinessFault, Token};
 use reader_core::ReaderCounts;
-use receivers::{Accept, AcceptOutcome, ServedInput};
+use receivers::{Accept, AcceptOutcome, ServedInput, StreamListener};
 use run_state::BeginNote;
-use std::sync::atomic::{AtomicU64, Ordering};
 
 /// The longest time that a receiver leaves a connection to the others, in milliseconds, while it holds more than one of them.
 const HOLD_MS: u64 = 2;
 
-/// The number of connections that each of the receivers holds that share a listener, and which of them this one is.
-#[derive(Clone, Copy)]
-pub struct Share<'s> {
-    /// The numbers of all.
-    pub held: &'s [AtomicU64],
-    /// The place of this one.
-    pub own: usize,
-}
-
-impl<'s> Share<'s> {
-    /// A listener that is not shared.
-    pub(crate) fn none() -> Share<'s> {
-        Share { held: &[], own: 0 }
-    }
-
-    /// Whether this receiver holds more connections than another one.
-    fn is_ahead(&self) -> bool {
-        let Some(own) = self.held.get(self.own) else {
-            return false;
-        };
-        let own = own.load(Ordering::SeqCst);
-        self.held
-            .iter()
-            .any(|other| other.load(Ordering::SeqCst) < own)
-    }
-
-    /// Whether some receiver has room for a connection.
-    fn has_room(&self) -> bool {
-        self.held.iter().any(|held| held.load(Ordering::SeqCst) < MOST_CONNECTIONS as u64)
-    }
-
-    /// It holds one more.
-    fn note_held(&self) {
-        if let Some(own) = self.held.get(self.own) {
-            let _before = own.fetch_add(1, Ordering::SeqCst);
-        }
-    }
-
-    /// It holds one less.
-    pub(crate) fn note_left(&self) {
-        if let Some(own) = self.held.get(self.own) {
-            let _before = own.fetch_sub(1, Ordering::SeqCst);
-        }
-    }
-}
-
-/// A listener that several receivers share. One that holds more connections than another takes the next one only after
-/// [`HOLD_MS`] milliseconds, and one that is full takes none while another has room. So the connections are spread over all, and
-/// are refused only when all are full.
+/// What is known of a receiver: its name, how it shares the port, who is told of its first wait, and what notes pieces for a watch.
 #[derive(Drop)]
-pub(crate) struct SharedListener<'s, A> {
-    listener: A,
-    share: Share<'s>,
-    note: BeginNote<'s>,
+pub(crate) struct PortNotes<'s> {
+    pub(crate) name: ReceiverName,
+    pub(crate) share: Share<'s>,
+    pub(crate) begin: BeginNote<'s>,
+    pub(crate) tap: &'s Tap<'s>,
+}
+
+/// A listener that several receivers may share. One that holds more connections than another takes the next one only after
+/// [`HOLD_MS`] milliseconds, and one that is full takes none while another has room. So the connections are spread over all, and
+/// are refused only when all are full. Its connections note what they read for a watch, if there is one.
+#[derive(Drop)]
+pub(crate) struct PortListener<'s> {
+    listener: StreamListener,
+    notes: PortNotes<'s>,
     // The milliseconds at which this turn began, and until which the connections that wait are left to other receivers, if
     // they are.
     now: u64,
     held_until: Option<u64>,
 }
 
-impl<'s, A: Accept> SharedListener<'s, A> {
-    /// A listener that is shared in this way.
-    pub(crate) fn new(listener: A, share: Share<'s>, note: BeginNote<'s>) -> SharedListener<'s, A> {
-        SharedListener {
+impl<'s> PortListener<'s> {
+    /// The listener of a receiver of which this is known.
+    pub(crate) fn new(listener: StreamListener, notes: PortNotes<'s>) -> PortListener<'s> {
+        PortListener {
             listener,
-            share,
-            note,
+            notes,
             now: 0,
             held_until: None,
         }
@@ -86,7 +48,7 @@ impl<'s, A: Accept> SharedListener<'s, A> {
 
     /// Whether the connections that wait are left to other receivers now. The time for which they are begins if it has not.
     fn leaves(&mut self) -> bool {
-        if !self.share.is_ahead() {
+        if !self.notes.share.is_ahead() {
             return false;
         }
         match self.held_until {
@@ -97,20 +59,31 @@ impl<'s, A: Accept> SharedListener<'s, A> {
             }
         }
     }
+
+    /// What is known of the pieces of a connection that is watched under a token.
+    fn head_of(&self, token: Token) -> PieceHead {
+        PieceHead {
+            receiver: self.notes.name,
+            producer: self.listener.peer(token),
+            connection: token.0,
+            start: PieceStart::Fresh,
+        }
+    }
 }
 
-impl<'s, A: Accept> Accept for SharedListener<'s, A> {
-    type Stream = SharedStream<'s, A::Stream>;
+impl<'s> Accept for PortListener<'s> {
+    type Stream = PortStream<'s>;
 
     fn begin_turn(&mut self, millis: u64) {
         self.now = millis;
+        self.notes.tap.hand_over();
         self.listener.begin_turn(millis);
     }
 
     fn wait(&mut self, millis: u64) -> Result<&[Token], ReadinessFault>
         ensures device { IfErr result (λ fault. fault ≡ ReadinessFault.Device) }
     {
-        self.note.note_wait();
+        self.notes.begin.note_wait();
         let millis = if self.held_until.is_some() {
             millis.max(1)
         } else {
@@ -123,10 +96,10 @@ impl<'s, A: Accept> Accept for SharedListener<'s, A> {
         self.listener.has_handed()
     }
 
-    fn accept(&mut self, token: Option<Token>) -> AcceptOutcome<SharedStream<'s, A::Stream>> {
+    fn accept(&mut self, token: Option<Token>) -> AcceptOutcome<PortStream<'s>> {
         // What was handed over to this receiver is left to no other.
         if !self.listener.has_handed() {
-            if token.is_none() && self.share.has_room() {
+            if token.is_none() && self.notes.share.has_room() {
                 // The system has told the others of the connection too.
                 return AcceptOutcome::Nothing;
             }
@@ -137,8 +110,10 @@ impl<'s, A: Accept> Accept for SharedListener<'s, A> {
         }
         match self.listener.accept(token) {
             AcceptOutcome::Stream(stream) => {
-                self.share.note_held();
-                AcceptOutcome::Stream(SharedStream::new(stream, self.share))
+                let (share, tap) = (self.notes.share, self.notes.tap);
+                share.note_held();
+                let head = self.head_of(token.unwrap_or(Token(0)));
+                AcceptOutcome::Stream(PortStream::new(stream, share, tap, head))
             }
             AcceptOutcome::Closed => AcceptOutcome::Closed,
             AcceptOutcome::Nothing => AcceptOutcome::Nothing,
@@ -147,7 +122,7 @@ impl<'s, A: Accept> Accept for SharedListener<'s, A> {
         }
     }
 
-    fn hand_over(&mut self, token: Token, stream: SharedStream<'s, A::Stream>, rest: &[u8]) {
+    fn hand_over(&mut self, token: Token, stream: PortStream<'s>, rest: &[u8]) {
         self.listener.hand_over(token, stream.into_stream(), rest);
     }
 
