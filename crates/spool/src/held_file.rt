@@ -106,6 +106,11 @@ impl HeldFile {
         self.sent.lines.count_to(&self.file, start, self.end, piece);
     }
 
+    /// It has so many lines, and nothing of it was sent.
+    pub(crate) fn note_lines(&mut self, lines: u64) {
+        self.sent.lines = LineCount::of(lines, self.end);
+    }
+
     /// What waits in it.
     pub(crate) fn waiting(&self) -> Waiting {
         Waiting {
@@ -222,11 +227,9 @@ impl HeldFile {
         }
     }
 
-    /// Its place is noted no more.
-    pub(crate) fn free(&self) {
-        if let Some(place) = &self.sent.place {
-            place.free();
-        }
+    /// Where it is noted how far it is sent, if it is. From now on that is not noted.
+    pub(crate) fn take_place(&mut self) -> Option<SentPlace> {
+        self.sent.place.take()
     }
 
     /// The file, where its whole lines end, and which part of them is sent.

@@ -11,6 +11,7 @@
 
 mod clock;
 mod copy;
+mod dest_segments;
 mod dest_spool;
 mod file_connection;
 mod file_names;
@@ -23,6 +24,7 @@ mod line_count;
 mod open_folder;
 mod part;
 mod pieces;
+mod segments;
 mod sent_table;
 mod spool_disk;
 mod spool_files;
@@ -31,6 +33,7 @@ mod turn;
 mod waiting;
 
 pub use clock::clock_seconds;
+pub use dest_segments::SegmentLimits;
 pub use dest_spool::DestSpool;
 pub use file_connection::FileConnection;
 pub use file_names::{FileNames, LOCK, TRIAL, fits_name};
