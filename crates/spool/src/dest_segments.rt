@@ -1,7 +1,7 @@
 //! The segments of one destination: they are found, written and sent in the order of their numbers.
 
 use crate::dest_spool::{DestSpool, LOOK};
-use crate::file_names::LAST_SEGMENT;
+use crate::file_names::{LAST_SEGMENT, is_free};
 use crate::found_file::{FileFault, FoundFile, found_at, is_there};
 use crate::held_file::{HeldFile, SentPart};
 use crate::limited_file::LimitedFile;
@@ -16,6 +16,9 @@ use std::io::{ErrorKind, Write};
 
 /// How many numbers may be those of files that somebody has put there.
 const MOST_TAKEN: u32 = 16;
+
+/// Behind which number the first segment is given another one.
+const LATE_SEGMENT: u32 = 50_000;
 
 /// How large segments become, in bytes: the size at which another one is begun, and the system's limit for the size of a file,
 /// if there is one.
@@ -119,6 +122,7 @@ impl DestSpool {
         if self.held.is_none() {
             self.names.select(0)?;
             folder.forget_others(self.names.dest(), "");
+            self.place = folder.record_for(self.names.dest());
         } else {
             folder.forget_others(self.names.dest(), self.names.name());
         }
@@ -140,6 +144,7 @@ impl DestSpool {
     /// Holds the next segment, once none is held. One that somebody took away is passed over; one that cannot be opened now stays
     /// the next one.
     pub(crate) fn go_on_with_next<D: SpoolDisk>(&mut self, disk: &D) {
+        self.number_anew(disk);
         for _ in 0..self.later.len() {
             let Some(segment) = self.later.first() else {
                 return;
@@ -158,6 +163,38 @@ impl DestSpool {
                 NextSegment::NotNow => return,
             }
         }
+    }
+
+    /// Gives the segments the first numbers, while none is held, if the first of them is behind [`LATE_SEGMENT`]: so numbers never
+    /// run out, however long a destination is diverted. They stay in their order at each step.
+    fn number_anew<D: SpoolDisk>(&mut self, disk: &D) {
+        match self.later.first() {
+            Some(first) if first.number > LATE_SEGMENT => {}
+            _ => return,
+        }
+        for place in 0..self.later.len() {
+            let Some(segment) = self.later.as_slice().get(place) else {
+                return;
+            };
+            let number = (place as u32).saturating_add(1);
+            if !self.moves_segment(disk, segment.number, number) {
+                return;
+            }
+            self.later.note_number(place, number);
+        }
+    }
+
+    /// Gives the segment of a number another one, at which nothing is. Returns whether it could.
+    fn moves_segment<D: SpoolDisk>(&self, disk: &D, from: u32, to: u32) -> bool {
+        let (Ok(old), Ok(new)) = (
+            self.names.segment_path(from),
+            self.names.segment_path(to),
+        ) else {
+            return false;
+        };
+        let moved = is_free(disk, new.as_str()) && disk.give_name(old.as_str(), new.as_str()).is_ok();
+        drop((old, new));
+        moved
     }
 
     /// What is there in the place of the next segment, whose name is selected. If that is the one that is written, it is no
@@ -207,14 +244,7 @@ impl DestSpool {
         if self.has_no_end {
             held.note_no_end();
         }
-        if let Some(place) = self.place.take() {
-            let mut place = place;
-            if place.give_to(self.names.name()) {
-                held.note_at(place);
-            } else {
-                drop(place);
-            }
-        }
+        self.give_place(&mut held);
         let _first = self.later.take_first();
         self.number = segment.number;
         self.held = Some(held);
@@ -228,6 +258,7 @@ impl DestSpool {
         limits: SegmentLimits,
         lines: &[u8],
     ) -> io::Result<usize> {
+        self.leave_lost_tail(disk);
         if self.is_full(limits.segment, lines.len()) {
             self.end_tail();
         }
@@ -250,6 +281,23 @@ impl DestSpool {
         match result {
             Ok(_) => Ok(kept),
             Err(error) => Err(error),
+        }
+    }
+
+    /// The last segment is no longer written, nor sent, if somebody has taken it away.
+    fn leave_lost_tail<D: SpoolDisk>(&mut self, disk: &D) {
+        let Some(tail) = &self.tail else {
+            return;
+        };
+        let number = self.later.last_number().unwrap_or(0);
+        let Ok(path) = self.names.segment_path(number) else {
+            return;
+        };
+        let is_lost = !is_there(disk, path.as_str(), tail.file());
+        drop(path);
+        if is_lost {
+            self.end_tail();
+            self.later.drop_last();
         }
     }
 

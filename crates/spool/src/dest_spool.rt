@@ -45,6 +45,8 @@ pub struct DestSpool {
     pub(crate) has_no_end: bool,
     // Whether the file that takes what is not sent is a segment behind others.
     pub(crate) is_new_behind: bool,
+    // Whether files are made while the relay runs.
+    makes_segments: bool,
 }
 
 impl DestSpool {
@@ -70,6 +72,7 @@ impl DestSpool {
             place: None,
             has_no_end: false,
             is_new_behind: false,
+            makes_segments: folder.at.makes_segments,
         };
         match spool.find_held(disk, folder) {
             Ok(()) => Ok(spool),
@@ -532,13 +535,17 @@ impl DestSpool {
     /// A file is gone: the next segment is noted where it was, if there is one.
     fn pass_place(&mut self, held: &mut HeldFile) {
         let place = held.take_place();
-        if self.later.are_none() {
-            free(place);
-            if self.names.select(0).is_ok() {
-                self.number = 0;
-            }
-        } else {
+        if !self.later.are_none() {
             self.place = place;
+            return;
+        }
+        if self.names.select(0).is_ok() {
+            self.number = 0;
+        }
+        if self.makes_segments {
+            self.place = kept(place, self.names.dest());
+        } else {
+            free(place);
         }
     }
 
@@ -673,13 +680,25 @@ impl DestSpool {
         }
         match self.end_file(disk, &file, end, is_whole) {
             Ok(()) => {
-                self.held = Some(HeldFile::new(file, end, sent));
+                let mut held = HeldFile::new(file, end, sent);
+                self.give_place(&mut held);
+                self.held = Some(held);
                 Ok(())
             }
             Err(error) => {
                 drop((file, sent));
                 Err(error)
             }
+        }
+    }
+
+    /// From now on it is noted how far a file is sent, if that can be noted and is not.
+    pub(crate) fn give_place(&mut self, held: &mut HeldFile) {
+        if held.has_place() {
+            return;
+        }
+        if let Some(place) = kept(self.place.take(), self.names.name()) {
+            held.note_at(place);
         }
     }
 
@@ -727,6 +746,17 @@ fn copy_to(to: File, file: &File, start: u64, end: u64) -> io::Result<()> {
     let mut to = to;
     copy_part(file, start, end, &mut to)?;
     to.sync_all()
+}
+
+/// A place at which a file was noted is that of the next one, if it could be written.
+fn kept(place: Option<SentPlace>, name: &str) -> Option<SentPlace> {
+    let mut place = place?;
+    if place.give_to(name) {
+        Some(place)
+    } else {
+        drop(place);
+        None
+    }
 }
 
 /// A place at which a file was noted is no file's.

@@ -186,7 +186,7 @@ impl FileNames {
 }
 
 /// Whether nothing is there at a path.
-fn is_free<D: SpoolDisk>(disk: &D, path: &str) -> bool {
+pub(crate) fn is_free<D: SpoolDisk>(disk: &D, path: &str) -> bool {
     match disk.look_at(path) {
         Ok(_) => false,
         Err(error) => error.kind() == ErrorKind::NotFound,

@@ -76,6 +76,11 @@ impl HeldFile {
         self.sent.place = Some(place);
     }
 
+    /// Whether it is noted how far it is sent.
+    pub(crate) fn has_place(&self) -> bool {
+        self.sent.place.is_some()
+    }
+
     /// The file.
     pub(crate) fn file(&self) -> &File {
         &self.file

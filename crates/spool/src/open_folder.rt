@@ -5,7 +5,7 @@ use crate::found_file::{FileFault, FoundFile, found_at};
 use crate::held_file::HeldFile;
 use crate::held_text::HeldText;
 use crate::line_count::lines_up_to;
-use crate::sent_table::SentTable;
+use crate::sent_table::{SentPlace, SentTable};
 use crate::spool_disk::SpoolDisk;
 use crate::waiting::Waiting;
 use memchr::memchr_iter;
@@ -25,6 +25,8 @@ pub struct FolderAt<'a> {
     pub path: &'a str,
     /// The user.
     pub owner: Option<u32>,
+    /// Whether files are made while the relay runs, so that each destination has a record from the start on.
+    pub makes_segments: bool,
 }
 
 /// Why the files of a folder cannot be opened.
@@ -130,6 +132,18 @@ impl<'a> OpenFolder<'a> {
         }
     }
 
+    /// The record of a destination of which no file is there, if each has one from the start on, and there is one for it.
+    pub(crate) fn record_for(&self, dest: &str) -> Option<SentPlace> {
+        if !self.at.makes_segments {
+            return None;
+        }
+        let sent = self.sent.as_ref()?;
+        match sent.record_of(dest) {
+            Some((place, _said)) => Some(place),
+            None => None,
+        }
+    }
+
     /// Of the files of a destination none has a record but the one of this name.
     pub(crate) fn forget_others(&self, dest: &str, name: &str) {
         if let Some(sent) = &self.sent {
@@ -148,7 +162,7 @@ impl<'a> OpenFolder<'a> {
             Ok(names) => names,
             Err(error) => {
                 // A relay finds its files without reading a folder that it may not read, where it makes no segments.
-                if error.kind() == ErrorKind::PermissionDenied {
+                if error.kind() == ErrorKind::PermissionDenied && !self.at.makes_segments {
                     drop(error);
                     return Ok(Vec::new(self.alloc));
                 }

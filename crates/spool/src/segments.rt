@@ -74,6 +74,13 @@ impl Segments {
         }
     }
 
+    /// The one of a place has another number.
+    pub(crate) fn note_number(&mut self, place: usize, number: u32) {
+        if let Some(segment) = self.list.get_mut(place) {
+            segment.number = number;
+        }
+    }
+
     /// How many there are.
     pub(crate) fn len(&self) -> usize {
         self.list.len()
