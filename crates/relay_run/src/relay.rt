@@ -23,15 +23,16 @@ use std::alloc::Global;
 use std::net::Net;
 use std::sync::Arc;
 use std::time::Instant;
-use store_lines::{DestSlots, GoneDests};
+use store_lines::{DestSlots, Diversions, GoneDests};
 
 /// The name of the set of queues; a run has one.
 pub(crate) const NAME: u64 = 1;
 
 /// What a run is made of, and its threads borrow: its configuration and its numbers, its queues, the gate that wakes the
 /// senders, and what the threads share beside these; the orders that some get at the end; what is left for destinations
-/// between two runs, and for those that are gone, with what wakes their sender; the connections that go from one run to the
-/// next; and what the first thread has for the log.
+/// between two runs, and for those that are gone, with what wakes their sender; the destinations that may be diverted to files,
+/// with what wakes the keeper of these; the connections that go from one run to the next; and what the first thread has for the
+/// log.
 #[derive(Drop)]
 pub(crate) struct Relay<B: Set> {
     pub(crate) configuration: RunConfiguration,
@@ -43,6 +44,8 @@ pub(crate) struct Relay<B: Set> {
     pub(crate) slots: DestSlots,
     pub(crate) gone: GoneDests,
     pub(crate) gone_gate: WakeGate,
+    pub(crate) diversions: Diversions,
+    pub(crate) keeper_gate: WakeGate,
     pub(crate) streams: Vec<Arc<HandedStreams>>,
     pub(crate) late_news: LateNews,
     // Since when its milliseconds count, whether no run was before, and the system's limit for the size of a file.
@@ -65,13 +68,14 @@ pub(crate) struct OpenRelay<B: Set, L> {
 }
 
 /// What the threads of a run are given, each its part: the seats at the queues, the ports of receivers, what each sender
-/// waits with, and what that to destinations that are gone does, and what those get that watch the others.
+/// waits with, and what that to destinations that are gone and the keeper of files do, and what those get that watch the others.
 #[derive(Drop)]
 pub(crate) struct Parts<B: Set, L> {
     pub(crate) seats: Seats<B>,
     pub(crate) receivers: Vec<BoundPort>,
     pub(crate) watches: Vec<Readiness>,
     pub(crate) gone_watch: Option<Readiness>,
+    pub(crate) keeper_watch: Option<Readiness>,
     pub(crate) watching: Watching<L>,
 }
 
@@ -93,13 +97,16 @@ pub(crate) struct Seats<B: Set> {
 }
 
 /// What a relay has beside its queues: the gate that wakes the senders, what its threads share, what each sender waits with,
-/// and what that to destinations that are gone does.
+/// and what that to destinations that are gone and the keeper of files do.
 #[derive(Drop)]
 struct SharedParts {
     gate: WakeGate,
     state: RunState,
     gone_gate: WakeGate,
     gone_watch: Option<Readiness>,
+    diversions: Diversions,
+    keeper_gate: WakeGate,
+    keeper_watch: Option<Readiness>,
     watches: Vec<Readiness>,
 }
 
@@ -234,11 +241,14 @@ fn open_relay<B: Set, L: Drop>(
         state,
         gone_gate,
         gone_watch,
+        mut diversions,
+        keeper_gate,
+        keeper_watch,
         watches,
     } = shared;
     let Inherited {
         notes,
-        slots,
+        mut slots,
         streams,
         gone,
         logged,
@@ -250,6 +260,7 @@ fn open_relay<B: Set, L: Drop>(
         status,
     } = ports;
     slots.note_waiting(state.spool_notes());
+    diversions.begin(&mut slots);
     OpenRelay {
         relay: Relay {
             configuration,
@@ -261,6 +272,8 @@ fn open_relay<B: Set, L: Drop>(
             slots,
             gone,
             gone_gate,
+            diversions,
+            keeper_gate,
             streams,
             late_news: LateNews::none(),
             began: process.began,
@@ -272,6 +285,7 @@ fn open_relay<B: Set, L: Drop>(
             receivers,
             watches,
             gone_watch,
+            keeper_watch,
             watching: Watching {
                 log,
                 news,
@@ -283,8 +297,8 @@ fn open_relay<B: Set, L: Drop>(
     }
 }
 
-/// The gate that wakes the senders of a run of this shape, what its threads share, the readiness of each sender, and that of
-/// the sender to destinations that are gone, if there are such.
+/// The gate that wakes the senders of a run of this shape, what its threads share, the readiness of each sender, and those of
+/// the sender to destinations that are gone and of the keeper of files, if there are such.
 fn shared_of(
     rt: &impl Net,
     alloc: Global,
@@ -295,25 +309,31 @@ fn shared_of(
 {
     let watches = watches_of(rt, alloc, shape.senders)?;
     let alarms = alarms_of(alloc, watches.as_slice())?;
-    let (gone_watch, gone_gate) = gone_watch_of(rt, alloc, are_none_gone)?;
+    let (gone_watch, gone_gate) = watch_of(rt, alloc, are_none_gone)?;
+    let (keeper_watch, keeper_gate) = watch_of(rt, alloc, shape.spool_size.is_none())?;
+    let diversions = Diversions::new(alloc, shape.diverted_dests())?;
     let state = RunState::new(
         alloc,
         shape.dests,
         shape.line_receivers,
         shape.drain_seconds,
-        shape.is_spooled,
+        shape.kept_size(),
     )?;
     Ok(SharedParts {
         gate: WakeGate::new(alarms),
         state,
         gone_gate,
         gone_watch,
+        diversions,
+        keeper_gate,
+        keeper_watch,
         watches,
     })
 }
 
-/// What the sender to destinations that are gone waits with, and the gate that wakes it; none if there are none.
-fn gone_watch_of(
+/// What the sender to destinations that are gone waits with, or the keeper of files, and the gate that wakes it; none if there
+/// are none.
+fn watch_of(
     rt: &impl Net,
     alloc: Global,
     are_none: bool,

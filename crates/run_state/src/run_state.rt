@@ -93,19 +93,20 @@ impl<'x> DestSources<'x> {
 
 impl RunState {
     /// The state of a run with this many destinations, and receivers of lines, without notes yet. It drains for this many
-    /// seconds at most, not at all with 0. Refuses if out of memory.
+    /// seconds at most, not at all with 0. Files keep what is not sent if there is a size for them ([`EndState::spool_size`]).
+    /// Refuses if out of memory.
     pub fn new(
         alloc: Global,
         dests: usize,
         line_receivers: usize,
         drain_seconds: u64,
-        is_spooled: bool,
+        spool_size: Option<u64>,
     ) -> Result<RunState, NoMemory> {
         Ok(RunState {
             signals: Signals::new(),
             notes: RunNotes::none(alloc),
             held: counters(alloc, line_receivers)?,
-            end: end_of(alloc, dests, drain_seconds, is_spooled)?,
+            end: end_of(alloc, dests, drain_seconds, spool_size)?,
         })
     }
 
@@ -179,10 +180,10 @@ fn end_of(
     alloc: Global,
     dests: usize,
     drain_seconds: u64,
-    is_spooled: bool,
+    spool_size: Option<u64>,
 ) -> Result<Option<EndState>, NoMemory> {
-    if drain_seconds == 0 && !is_spooled {
+    if drain_seconds == 0 && spool_size.is_none() {
         return Ok(None);
     }
-    Ok(Some(EndState::new(alloc, dests, drain_seconds, is_spooled)?))
+    Ok(Some(EndState::new(alloc, dests, drain_seconds, spool_size)?))
 }

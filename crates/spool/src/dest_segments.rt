@@ -186,13 +186,11 @@ impl DestSpool {
 
     /// Gives the segment of a number another one, at which nothing is. Returns whether it could.
     fn moves_segment<D: SpoolDisk>(&self, disk: &D, from: u32, to: u32) -> bool {
-        let (Ok(old), Ok(new)) = (
-            self.names.segment_path(from),
-            self.names.segment_path(to),
-        ) else {
+        let (Ok(old), Ok(new)) = (self.names.segment_path(from), self.names.segment_path(to)) else {
             return false;
         };
-        let moved = is_free(disk, new.as_str()) && disk.give_name(old.as_str(), new.as_str()).is_ok();
+        let moved = is_free(disk, new.as_str())
+            && disk.give_name(old.as_str(), new.as_str()).is_ok();
         drop((old, new));
         moved
     }
@@ -260,6 +258,7 @@ impl DestSpool {
     ) -> io::Result<usize> {
         self.leave_lost_tail(disk);
         if self.is_full(limits.segment, lines.len()) {
+            self.sync_tail();
             self.end_tail();
         }
         if self.tail.is_none() {
@@ -309,6 +308,13 @@ impl DestSpool {
                 end > 0 && end.saturating_add(count as u64) > limit
             }
             None => false,
+        }
+    }
+
+    /// Waits until the last segment is on the disk. If that cannot be, the system tries it later.
+    fn sync_tail(&self) {
+        if let Some(tail) = &self.tail {
+            let _ = tail.file().sync_data();
         }
     }
 

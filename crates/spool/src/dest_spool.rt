@@ -389,14 +389,19 @@ impl DestSpool {
         }
     }
 
-    /// The store does not end its connection: what that took of the earlier file counts as sent, and so does the rest as soon as
+    /// The store did not end its connection within so many seconds: what that took of the earlier file counts as sent, and so does the rest as soon as
     /// the system has it. The notes say so.
-    pub fn note_no_end<D: SpoolDisk>(&mut self, disk: &D, notes: Option<&SpoolNotes>) {
+    pub fn note_no_end<D: SpoolDisk>(
+        &mut self,
+        disk: &D,
+        seconds: u64,
+        notes: Option<&SpoolNotes>,
+    ) {
         let Some(held) = &mut self.held else {
             return;
         };
         held.note_no_end();
-        note_news(notes, self.names.no_end_news());
+        note_news(notes, self.names.no_end_news(seconds));
         self.end_part(disk, notes);
     }
 

@@ -168,11 +168,11 @@ impl FileNames {
         )?)
     }
 
-    /// The news of a file whose store does not end connections.
-    pub(crate) fn no_end_news(&self) -> Result<String, NoMemory> {
+    /// The news of a file whose store did not end a connection within so many seconds.
+    pub(crate) fn no_end_news(&self, seconds: u64) -> Result<String, NoMemory> {
         let (alloc, held) = (self.alloc, self.held());
         Ok(format!(in alloc;
-            "spool: {held}: the store did not end the connection within 5 seconds: what the system took counts as sent\n"
+            "spool: {held}: the store did not end the connection within {seconds} seconds: what the system took counts as sent\n"
         )?)
     }
 

@@ -36,19 +36,24 @@ struct Inside {
 }
 
 impl Intake {
-    /// The intake of a destination, of which lines wait in files or do not. Refuses if out of memory.
-    pub fn new(alloc: Global, is_behind: bool) -> Result<Intake, NoMemory> {
+    /// The intake of a live destination. Refuses if out of memory.
+    pub fn new(alloc: Global) -> Result<Intake, NoMemory> {
         let pipe = Pipe::new(alloc, INTAKE_ROOM)?;
         Ok(Intake {
             inside: Mutex::new(Inside {
                 pipe,
                 is_open: false,
-                is_behind,
+                is_behind: false,
             }),
             is_to_shut: AtomicBool::new(false),
             is_blocked: AtomicBool::new(false),
             is_store_busy: AtomicBool::new(false),
         })
+    }
+
+    /// Lines of the destination wait in files, so that it is returning. No other thread is there.
+    pub fn begin_behind(&mut self) {
+        self.inside.get_mut().is_behind = true;
     }
 
     /// The sender diverts the destination from now on. Returns whether it was live before.

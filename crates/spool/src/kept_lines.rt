@@ -5,6 +5,7 @@ use crate::line_count::lines_in;
 use backlog::whole_length;
 use relay_base::NoMemory;
 use std::alloc::Global;
+use std::mem;
 use std::sync::Wait;
 
 /// Whole lines that were taken from an intake, of which a first part is in a file.
@@ -34,9 +35,27 @@ impl KeptLines {
         self.len() > 0
     }
 
+    /// Takes the whole lines that wait in an intake behind those that are left. Returns whether there was memory for that.
+    pub fn fill_behind<R: Wait>(&mut self, rt: &R, alloc: Global, intake: &Intake) -> bool {
+        let mut more = Vec::new(alloc);
+        intake.take_lines(rt, &mut more);
+        let is_kept = self.lines.extend_from_slice(more.as_slice()).is_ok();
+        drop(more);
+        is_kept
+    }
+
     /// How many bytes are left.
     pub fn len(&self) -> usize {
         self.lines.len().saturating_sub(self.passed)
+    }
+
+    /// Takes what is left out.
+    pub fn take(&mut self, alloc: Global) -> KeptLines {
+        let passed = mem::replace(&mut self.passed, 0);
+        KeptLines {
+            lines: mem::replace(&mut self.lines, Vec::new(alloc)),
+            passed,
+        }
     }
 
     /// Whether nothing is left.
