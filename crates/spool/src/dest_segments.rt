@@ -400,9 +400,34 @@ impl DestSpool {
         held.saturating_add(self.later.bytes())
     }
 
-    /// Waits until all segments are on the disk. None is written any more.
-    pub fn end_segments<D: SpoolDisk>(&mut self, disk: &D) -> io::Result<()> {
+    /// The last segment goes if nothing was written to it.
+    pub fn leave_empty<D: SpoolDisk>(&mut self, disk: &D) {
+        let is_empty = match &self.tail {
+            Some(tail) => tail.end() == 0,
+            None => false,
+        };
+        if !is_empty {
+            return;
+        }
         self.end_tail();
+        if let Some(number) = self.later.last_number() {
+            if let Ok(path) = self.names.segment_path(number) {
+                let _ = disk.remove(path.as_str());
+                drop(path);
+            }
+            self.later.drop_last();
+        }
+    }
+
+    /// Waits until all files are on the disk. None is written any more.
+    pub fn end_segments<D: SpoolDisk>(&mut self, disk: &D) -> io::Result<()> {
+        self.leave_empty(disk);
+        self.end_tail();
+        match &self.held {
+            Some(held) => held.file().sync_all()?,
+            None if self.later.are_none() => return Ok(()),
+            None => {}
+        }
         for segment in self.later.as_slice() {
             let Ok(path) = self.names.segment_path(segment.number) else {
                 return Err(io::Error::from(ErrorKind::OutOfMemory));

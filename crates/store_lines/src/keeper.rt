@@ -17,6 +17,9 @@ const RETRY_MS: u64 = 1_000;
 /// A destination is about to return once its files and its intake have no more bytes than this.
 const CLOSE: u64 = 1_048_576;
 
+/// After how many milliseconds a destination is asked again that could not return.
+const CLOSE_AGAIN_MS: u64 = 500;
+
 /// For how many milliseconds a wait lasts at most while something waits for a destination, and otherwise.
 const BEHIND_WAIT_MS: u64 = 10;
 
@@ -30,12 +33,13 @@ pub(crate) struct KeeperRoom<'n> {
     pub(crate) used: &'n AtomicU64,
 }
 
-/// What the keeper has of a destination beside its files: lines that are not in a file yet, from when on they are tried, and since
-/// when the store may still read the connection that the sender had.
+/// What the keeper has of a destination beside its files: lines that are not in a file yet, from when on they are tried, from when
+/// on the sender is asked to give the intake up, and since when the store may still read the connection that the sender had.
 #[derive(Drop)]
 pub(crate) struct KeptDest {
     pub(crate) lines: KeptLines,
     retry_at: u64,
+    close_at: u64,
     busy_since: Option<u64>,
 }
 
@@ -45,6 +49,7 @@ impl KeptDest {
         KeptDest {
             lines,
             retry_at: 0,
+            close_at: 0,
             busy_since: None,
         }
     }
@@ -90,7 +95,7 @@ where
         for place in 0..self.dests.len() {
             has_moved = self.keep(place, millis) || has_moved;
             self.send(place, millis);
-            are_behind = self.end(place) || are_behind;
+            are_behind = self.end(place, millis) || are_behind;
         }
         if has_moved {
             self.gate.wake_all();
@@ -110,9 +115,17 @@ where
         };
         let has_taken = dest.lines.fill(&self.disk, intake);
         if !dest.lines.are_none() && millis >= dest.retry_at {
-            self.write(place, millis, self.signals.is_spooling());
+            self.write(place, millis, self.is_last(place));
         }
         has_taken
+    }
+
+    /// Whether the lines of a destination are its last ones: the relay is about to end.
+    fn is_last(&self, place: usize) -> bool {
+        match self.notes.get(place) {
+            Some(notes) => notes.is_spooling(),
+            None => false,
+        }
     }
 
     /// Writes the lines that it has of a destination to files, within the bound unless these are the last ones.
@@ -155,7 +168,7 @@ where
         };
         dest.retry_at = 0;
         notes.note_stall(None);
-        if self.signals.is_spooling() {
+        if notes.is_spooling() {
             let before = dest.lines.datapoints();
             dest.lines.pass(count);
             let datapoints = before.saturating_sub(dest.lines.datapoints());
@@ -183,7 +196,7 @@ where
     }
 
     /// Notes how many bytes the files of each destination have, and those of all together.
-    fn note_used(&mut self) {
+    pub(crate) fn note_used(&mut self) {
         let mut all: u64 = 0;
         for place in 0..self.used.len() {
             let bytes = match self.connector.files_mut(place) {
@@ -211,7 +224,7 @@ where
 
     /// Asks the sender of a destination to give the intake up once almost all is sent, and lets the destination be live once all is.
     /// Returns whether it is not.
-    fn end(&mut self, place: usize) -> bool {
+    fn end(&mut self, place: usize, millis: u64) -> bool {
         let (Some(intake), Some(notes)) = (self.diversions.intake(place), self.notes.get(place))
         else {
             return false;
@@ -223,20 +236,43 @@ where
         let (is_open, waiting) = intake.state(&self.disk);
         let left = self.left_of(place, waiting as u64);
         if is_open {
-            if left <= CLOSE && self.connector.is_sending(place) && !intake.is_to_shut() {
-                intake.ask_to_shut();
-                self.gate.wake_all();
+            if left <= CLOSE && self.connector.takes_more(place) {
+                self.ask_to_shut(place, intake, millis);
             }
             return true;
         }
         if left > 0 || self.connector.is_behind(place) || !intake.end_return(&self.disk) {
             return true;
         }
-        self.note_used();
-        notes.note_sent(true);
+        let is_whole = self.leave_files(place);
+        notes.note_sent(is_whole);
         notes.note_stall(None);
         self.gate.wake_all();
         false
+    }
+
+    /// Asks the sender of a destination to give the intake up, unless it was asked a short time ago.
+    fn ask_to_shut(&mut self, place: usize, intake: &Intake, millis: u64) {
+        let Some(dest) = self.dests.get_mut(place) else {
+            return;
+        };
+        if millis >= dest.close_at {
+            dest.close_at = millis.saturating_add(CLOSE_AGAIN_MS);
+            intake.ask_to_shut();
+            self.gate.wake_all();
+        }
+    }
+
+    /// A destination is live again. Returns whether all of its files is sent: one that cannot be read stays.
+    fn leave_files(&mut self, place: usize) -> bool {
+        self.note_used();
+        match self.connector.files_mut(place) {
+            Some(files) => {
+                files.leave_empty(&self.disk);
+                files.waiting().bytes == 0
+            }
+            None => true,
+        }
     }
 
     /// How many bytes are left of a destination, of which so many wait in its intake.

@@ -170,6 +170,7 @@ impl<'x, R: Wait + Clock + Net + SpoolDisk + Copy + Drop> ThreadWork<R, ()> for 
             dests,
             used,
         };
+        keeper.note_used();
         BeginNote::new(signals).note_wait();
         keep_until_stopped(rt, &mut keeper, &times);
         end_files(rt, alloc, &mut keeper, &times, &share);

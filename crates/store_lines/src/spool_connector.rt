@@ -207,9 +207,10 @@ where
         self.spool.is_behind(place) || self.spool.is_sending(place)
     }
 
-    /// Whether an earlier file of a destination goes out now.
-    pub(crate) fn is_sending(&self, place: usize) -> bool {
-        self.spool.is_sending(place)
+    /// Whether the store of a destination takes more of the earlier file at once, or is about to end the connection that took a
+    /// part.
+    pub(crate) fn takes_more(&self, place: usize) -> bool {
+        self.spool.takes_more(place)
     }
 
     /// Whether the last connection of a destination is its new file.
@@ -280,6 +281,14 @@ impl<'n, W: Write + HalfClose + Drop> SenderSpool<'n, W> {
     /// The files of a destination.
     fn files_mut(&mut self, place: usize) -> Option<&mut DestSpool> {
         self.dests.get_mut(place)?.spool.as_mut()
+    }
+
+    /// Whether a connection takes more of the earlier file of a destination at once, or has taken a part.
+    fn takes_more(&self, place: usize) -> bool {
+        match self.dests.get(place) {
+            Some(state) => state.connection.goes_on() || state.end.is_some(),
+            None => false,
+        }
     }
 
     /// Whether a connection takes the earlier file of a destination, or has taken a part, which its store has not ended yet.
