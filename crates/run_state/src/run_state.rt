@@ -69,6 +69,14 @@ impl<'x> DestSources<'x> {
         }
     }
 
+    /// How many bytes more the files of a destination may have while the relay runs, and whether they take no more for now.
+    pub fn room_at(&self, place: usize) -> (u64, bool) {
+        match self.file_at(place) {
+            Some(notes) => (notes.room(), notes.stall().is_some()),
+            None => (0, false),
+        }
+    }
+
     /// How many datapoints of the file of a destination connections took in this run, those that went out again too.
     pub fn passed_at(&self, place: usize) -> u64 {
         match self.file_at(place) {

@@ -20,6 +20,8 @@ pub struct SpoolNotes {
     begun: AtomicU64,
     // Why files take no more now, while the relay runs: the number of a `SpoolStall`, 0 if they do.
     stall: AtomicU64,
+    // How many bytes more its files may have, while the relay runs.
+    room: AtomicU64,
     // Its last connection is its new file, which took these bytes and datapoints.
     is_spooling: AtomicBool,
     bytes: AtomicU64,
@@ -66,6 +68,7 @@ impl SpoolNotes {
             sent: AtomicU64::new(0),
             begun: AtomicU64::new(0),
             stall: AtomicU64::new(0),
+            room: AtomicU64::new(0),
             is_spooling: AtomicBool::new(false),
             bytes: AtomicU64::new(0),
             datapoints: AtomicU64::new(0),
@@ -124,6 +127,16 @@ impl SpoolNotes {
             Some(SpoolStall::CannotWrite) => 2,
         };
         self.stall.store(number, Ordering::SeqCst);
+    }
+
+    /// Files may have so many bytes more.
+    pub fn note_room(&self, room: u64) {
+        self.room.store(room, Ordering::SeqCst);
+    }
+
+    /// How many bytes more files may have while the relay runs; 0 if they are written at its end alone.
+    pub fn room(&self) -> u64 {
+        self.room.load(Ordering::SeqCst)
     }
 
     /// Why files take no more for now.

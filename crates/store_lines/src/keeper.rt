@@ -20,6 +20,9 @@ const CLOSE: u64 = 1_048_576;
 /// After how many milliseconds a destination is asked again that could not return.
 const CLOSE_AGAIN_MS: u64 = 500;
 
+/// How many milliseconds pass between two notes of what the files have.
+const NOTE_MS: u64 = 1_000;
+
 /// For how many milliseconds a wait lasts at most while something waits for a destination, and otherwise.
 const BEHIND_WAIT_MS: u64 = 10;
 
@@ -81,15 +84,21 @@ pub(crate) struct Keeper<'n, 's, N: Connect, D> {
     // By destination.
     pub(crate) dests: Vec<KeptDest>,
     pub(crate) used: Vec<u64>,
+    // At which milliseconds it is noted next what the files have.
+    pub(crate) note_at: u64,
 }
 
 impl<'n, 's, N: Connect, D: SpoolDisk + Wait + Copy + Drop> Keeper<'n, 's, N, D>
 where
     N::Sink: HalfClose,
 {
-    /// A turn, at these milliseconds: takes what waits in intakes, writes it, and sends files. Returns for how many milliseconds to
+    /// A turn, at these milliseconds: once a second notes what the files have, and each time takes what waits in intakes, writes it, and sends files. Returns for how many milliseconds to
     /// wait then.
     pub(crate) fn take_turn(&mut self, millis: u64) -> u64 {
+        if millis >= self.note_at {
+            self.note_at = millis.saturating_add(NOTE_MS);
+            self.note_used();
+        }
         let mut has_moved = false;
         let mut are_behind = false;
         for place in 0..self.dests.len() {
@@ -195,7 +204,7 @@ where
         }
     }
 
-    /// Notes how many bytes the files of each destination have, and those of all together.
+    /// Notes how many bytes the files of each destination have and may have, and how many those of all have together.
     pub(crate) fn note_used(&mut self) {
         let mut all: u64 = 0;
         for place in 0..self.used.len() {
@@ -209,6 +218,9 @@ where
             all = all.saturating_add(bytes);
         }
         self.room.used.store(all, Ordering::SeqCst);
+        for (place, notes) in self.notes.iter().enumerate() {
+            notes.note_room(self.room.bound.room(self.used.as_slice(), place));
+        }
     }
 
     /// Sends some of the files of a destination, once its store has ended the connection that the sender had.

@@ -169,6 +169,7 @@ impl<'x, R: Wait + Clock + Net + SpoolDisk + Copy + Drop> ThreadWork<R, ()> for 
             signals,
             dests,
             used,
+            note_at: 0,
         };
         keeper.note_used();
         BeginNote::new(signals).note_wait();
