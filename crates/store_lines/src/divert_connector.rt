@@ -174,7 +174,7 @@ impl<'n, 's, N: Connect, R: Wait + Copy + Drop, Q: QueueLevels> DivertConnector<
                 count += 1;
             }
         }
-        Ok(&self.ready[..count])
+        Ok(&self.ready[..count.min(MOST_DESTINATIONS)])
     }
 
     /// The connection of a destination is ready.
