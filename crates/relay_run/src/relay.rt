@@ -260,7 +260,7 @@ fn open_relay<B: Set, L: Drop>(
         status,
     } = ports;
     slots.note_waiting(state.spool_notes());
-    diversions.begin(&mut slots);
+    diversions.begin(&mut slots, state.spool_notes());
     OpenRelay {
         relay: Relay {
             configuration,

@@ -285,6 +285,11 @@ impl DestSpool {
         }
     }
 
+    /// Whether a file can have the destination's name.
+    pub fn has_names(&self) -> bool {
+        self.names.are_short()
+    }
+
     /// Whether an earlier file holds lines that are to be sent.
     pub fn is_behind(&self) -> bool {
         let is_held = match &self.held {

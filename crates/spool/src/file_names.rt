@@ -77,6 +77,11 @@ impl FileNames {
         self.dest.as_str()
     }
 
+    /// Whether files can have these names.
+    pub(crate) fn are_short(&self) -> bool {
+        self.dest.len().saturating_add(ASIDE.len()) <= LONGEST_NAME
+    }
+
     /// The name in the folder of the file that holds lines.
     pub fn name(&self) -> &str {
         self.name.as_str()

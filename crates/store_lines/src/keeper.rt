@@ -36,11 +36,13 @@ pub(crate) struct KeeperRoom<'n> {
     pub(crate) used: &'n AtomicU64,
 }
 
-/// What the keeper has of a destination beside its files: lines that are not in a file yet, from when on they are tried, from when
-/// on the sender is asked to give the intake up, and since when the store may still read the connection that the sender had.
+/// What the keeper has of a destination beside its files: lines that are not in a file yet, whether some were written since the
+/// intake was opened, from when on they are tried, from when on the sender is asked to give the intake up, and since when the store
+/// may still read the connection that the sender had.
 #[derive(Drop)]
 pub(crate) struct KeptDest {
     pub(crate) lines: KeptLines,
+    has_written: bool,
     retry_at: u64,
     close_at: u64,
     busy_since: Option<u64>,
@@ -51,6 +53,7 @@ impl KeptDest {
     pub(crate) fn new(lines: KeptLines) -> KeptDest {
         KeptDest {
             lines,
+            has_written: false,
             retry_at: 0,
             close_at: 0,
             busy_since: None,
@@ -92,8 +95,8 @@ impl<'n, 's, N: Connect, D: SpoolDisk + Wait + Copy + Drop> Keeper<'n, 's, N, D>
 where
     N::Sink: HalfClose,
 {
-    /// A turn, at these milliseconds: once a second notes what the files have, and each time takes what waits in intakes, writes it, and sends files. Returns for how many milliseconds to
-    /// wait then.
+    /// A turn, at these milliseconds: takes what waits in intakes, writes it, sends files, and once a second notes what these have.
+    /// Returns for how many milliseconds to wait then.
     pub(crate) fn take_turn(&mut self, millis: u64) -> u64 {
         if millis >= self.note_at {
             self.note_at = millis.saturating_add(NOTE_MS);
@@ -176,6 +179,7 @@ where
             return;
         };
         dest.retry_at = 0;
+        dest.has_written = true;
         notes.note_stall(None);
         if notes.is_spooling() {
             let before = dest.lines.datapoints();
@@ -248,7 +252,7 @@ where
         let (is_open, waiting) = intake.state(&self.disk);
         let left = self.left_of(place, waiting as u64);
         if is_open {
-            if left <= CLOSE && self.connector.takes_more(place) {
+            if self.is_almost_sent(place, left) {
                 self.ask_to_shut(place, intake, millis);
             }
             return true;
@@ -256,11 +260,23 @@ where
         if left > 0 || self.connector.is_behind(place) || !intake.end_return(&self.disk) {
             return true;
         }
+        if let Some(dest) = self.dests.get_mut(place) {
+            dest.has_written = false;
+        }
         let is_whole = self.leave_files(place);
         notes.note_sent(is_whole);
         notes.note_stall(None);
         self.gate.wake_all();
         false
+    }
+
+    /// Whether almost all is sent to a destination of which so many bytes are left: its store takes more, or has all.
+    fn is_almost_sent(&self, place: usize, left: u64) -> bool {
+        let has_written = match self.dests.get(place) {
+            Some(dest) => dest.has_written,
+            None => false,
+        };
+        left <= CLOSE && self.connector.takes_more(place) || left == 0 && has_written
     }
 
     /// Asks the sender of a destination to give the intake up, unless it was asked a short time ago.

@@ -141,6 +141,14 @@ impl LeftDest {
         }
     }
 
+    /// Whether there are files, and one can have the destination's name.
+    pub(crate) fn has_names(&self) -> bool {
+        match &self.files {
+            Some(files) => files.has_names(),
+            None => false,
+        }
+    }
+
     /// Whether the earlier file is not sent yet.
     pub fn is_behind_file(&self) -> bool {
         match &self.files {

@@ -113,6 +113,13 @@ impl<'n, W: Drop> SenderSpool<'n, W> {
     }
 }
 
+/// Half-closes a connection that is no longer needed, which is no loss.
+fn half_close<W: HalfClose + Drop>(sink: W) {
+    let mut sink = sink;
+    sink.half_close();
+    drop(sink);
+}
+
 /// The connection that the earlier file of a destination went out on is closed.
 fn reconnect(files: &mut Option<DestSpool>, notes: Option<&SpoolNotes>) {
     if let Some(files) = files {
@@ -187,7 +194,11 @@ where
 
     /// Sends some of the earlier files of a destination, if there are, and connects to it for them alone.
     pub(crate) fn send_files(&mut self, dest: DestId, millis: u64) {
-        if self.spool.awaits_end(&self.disk, dest.0, millis) || !self.spool.is_behind(dest.0) {
+        if self.spool.awaits_end(&self.disk, dest.0, millis) {
+            return;
+        }
+        if !self.spool.is_behind(dest.0) {
+            self.spool.leave_connection(dest.0);
             return;
         }
         if !self.spool.has_sink(dest.0) {
@@ -196,9 +207,8 @@ where
             };
             self.spool.keep(dest.0, sink);
         }
-        if let Some(mut sink) = self.spool.send(&self.disk, dest.0) {
-            sink.half_close();
-            drop(sink);
+        if let Some(sink) = self.spool.send(&self.disk, dest.0) {
+            half_close(sink);
         }
     }
 
@@ -278,6 +288,16 @@ impl<'n, W> SenderSpool<'n, W> {
 }
 
 impl<'n, W: Write + HalfClose + Drop> SenderSpool<'n, W> {
+    /// The connection of the earlier file of a destination is not needed, if there is one: nothing is left of that.
+    fn leave_connection(&mut self, place: usize) {
+        let Some(state) = self.dests.get_mut(place) else {
+            return;
+        };
+        if let Some(sink) = state.connection.take() {
+            half_close(sink);
+        }
+    }
+
     /// The files of a destination.
     fn files_mut(&mut self, place: usize) -> Option<&mut DestSpool> {
         self.dests.get_mut(place)?.spool.as_mut()
