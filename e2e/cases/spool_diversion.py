@@ -154,12 +154,15 @@ class Outages(Diversion):
             self.over(relay)
 
     def test_memory_does_not_grow_with_the_files(self):
-        """Ten times as much in files takes no more of it."""
+        """More in files takes no more of it. Before that the histories are full."""
         _, dest = self.away()
+        lines = numbered(MANY // 5)
         with self.diverting([dest]) as relay:
-            self.send_many(relay, numbered(MANY // 10))
+            for _ in range(4):
+                self.send_many(relay, lines)
             before = relay.resident()
-            self.send_many(relay, numbered(MANY))
+            for _ in range(5):
+                self.send_many(relay, lines)
             self.assertLess(relay.resident() - before, 4 * 1_048_576)
             self.over(relay)
 
@@ -171,16 +174,17 @@ class Bounds(Diversion):
         """Files have no more; another destination has its share all the same."""
         (first, one), (second, other) = self.away(), self.away()
         rules = f"[a]\npattern = ^a\ndestinations = {one}\n[all]\ndefault = true\ndestinations = {other}\n"
-        mine, others = [b"a" + line for line in LONG], numbered(4_000, b"z")
+        mine, others = [b"a" + line for line in LONG], numbered(3_000, b"z")
         with self.relay([one, other], rules, MAX_QUEUE_SIZE="2000",
                         options=("--spool", self.dir, "--spool-size", "1048576", "--log")) as relay:
             log = Log(relay.child.stderr)
             relay.lines(text_of(mine))
             self.wait_for(lambda: self.dropped(relay) > 0, "the files are full")
-            relay.lines(text_of(others))
+            for first in range(0, len(others), 500):
+                relay.lines(text_of(others[first:first + 500]))
+                self.wait_for(lambda count=first + 500: relay.report()[1][1]["offered"] == count, "they were offered")
             self.wait_for(lambda: any(b"spool full" in line for line in list(log.lines)), "the log says so")
             self.wait_for(lambda: any(b"relay spool " in line for line in list(log.lines)), "the log says how full they are")
-            self.wait_for(lambda: relay.report()[1][1]["offered"] == len(others), "all were offered")
             self.assertEqual(relay.report()[1][1]["dropped"], 0)
             self.assertLessEqual(sum(os.path.getsize(self.path(name)) for name in self.files()), 1_048_576)
             kept = [relay.report()[place][1]["kept"] for place in range(2)]

@@ -149,7 +149,8 @@ impl<'n, 's, N: Connect, R: Wait + Copy + Drop, Q: QueueLevels> DivertConnector<
         self.levels.is_filled(dest, eighths)
     }
 
-    /// Waits, and looks then at each destination of the share. It does not wait while an intake that was full has room again.
+    /// Looks at each destination of the share, and waits: not at all while a connection is given up, or an intake that was full has
+    /// room again.
     fn wait_beside_intakes(
         &mut self,
         millis: u64,
@@ -157,7 +158,7 @@ impl<'n, 's, N: Connect, R: Wait + Copy + Drop, Q: QueueLevels> DivertConnector<
     ) -> Result<&[DestId], ReadinessFault>
         ensures device { IfErr result (λ fault. fault ≡ ReadinessFault.Device) }
     {
-        let pause = if self.has_room_again() { 0 } else { millis };
+        let pause = if self.look_at_all(to) { 0 } else { millis };
         let count = copy_list(self.connector.wait(pause)?, &mut self.ready);
         for place in 0..count.min(MOST_DESTINATIONS) {
             let dest = self.ready[place];
@@ -165,16 +166,23 @@ impl<'n, 's, N: Connect, R: Wait + Copy + Drop, Q: QueueLevels> DivertConnector<
         }
         let mut count = count;
         for place in 0..to.diversions.len().min(MOST_DESTINATIONS) {
-            if !self.share.has(place) {
-                continue;
-            }
-            self.look_at(DestId(place), to);
-            if self.takes_again(DestId(place)) && count < MOST_DESTINATIONS {
-                self.ready[count] = DestId(place);
+            let dest = DestId(place);
+            self.note_end(dest, to);
+            if self.takes_again(dest) && count < MOST_DESTINATIONS {
+                self.ready[count] = dest;
                 count += 1;
             }
         }
         Ok(&self.ready[..count.min(MOST_DESTINATIONS)])
+    }
+
+    /// Looks at each destination. Returns whether nothing is to be waited for.
+    fn look_at_all(&mut self, to: DivertTo<'n>) -> bool {
+        let mut presses = false;
+        for place in 0..self.share.dests {
+            presses = self.look_at(DestId(place), to) || presses;
+        }
+        presses
     }
 
     /// The connection of a destination is ready.
@@ -182,16 +190,6 @@ impl<'n, 's, N: Connect, R: Wait + Copy + Drop, Q: QueueLevels> DivertConnector<
         if let (Given::Store, Some(intake)) = (self.given(dest), self.intake(dest)) {
             intake.note_blocked(false);
         }
-    }
-
-    /// Whether an intake that was full has room again.
-    fn has_room_again(&self) -> bool {
-        for place in 0..self.share.dests {
-            if self.has_room_at(DestId(place)) {
-                return true;
-            }
-        }
-        false
     }
 
     /// Whether the intake of a destination, which was full, has room again.
@@ -214,27 +212,42 @@ impl<'n, 's, N: Connect, R: Wait + Copy + Drop, Q: QueueLevels> DivertConnector<
     }
 
     /// Ends the connection of a destination to its store, if that takes no more while the queue is half full, or if the relay is
-    /// about to end; notes whether the store has read such a connection to its end.
-    fn look_at(&mut self, dest: DestId, to: DivertTo<'n>) {
+    /// about to end. Returns whether nothing is to be waited for: a connection is given up, or an intake has room again.
+    fn look_at(&mut self, dest: DestId, to: DivertTo<'n>) -> bool {
         let Some(intake) = self.intake(dest) else {
-            return;
+            return false;
         };
-        if let Given::Store = self.given(dest) {
-            if self.is_given_up(dest, intake) {
+        match self.given(dest) {
+            Given::Store if self.is_given_up(dest, intake) => {
                 self.connector.end_connection(dest);
                 intake.note_store_busy(true);
                 self.give(dest, Given::Ending);
+                true
             }
+            Given::Intake => {
+                if let (true, Some(notes)) = (self.is_ending(dest), to.notes.get(dest.0)) {
+                    notes.note_spooling();
+                }
+                self.has_room_at(dest)
+            }
+            _ => false,
         }
-        if intake.is_store_busy() && self.connector.has_ended(dest) {
+    }
+
+    /// Notes whether the store of a destination has ended the connection that was given up, if one was.
+    fn note_end(&self, dest: DestId, to: DivertTo<'n>) {
+        let Some(intake) = self.intake(dest) else {
+            return;
+        };
+        if self.share.has(dest.0) && intake.is_store_busy() && self.connector.has_ended(dest) {
             intake.note_store_busy(false);
             to.gate.wake_all();
         }
-        if let (Given::Intake, true) = (self.given(dest), self.is_ending(dest)) {
-            if let Some(notes) = to.notes.get(dest.0) {
-                notes.note_spooling();
-            }
-        }
+    }
+
+    /// Whether the connection of a destination to its store was given up.
+    fn is_given_up_already(&self, dest: DestId) -> bool {
+        matches!(self.given(dest), Given::Ending)
     }
 
     /// Whether the connection of a destination to its store is given up.
@@ -292,11 +305,12 @@ impl<'n, 's, N: Connect + Drop, R: Wait + Copy + Drop, Q: QueueLevels + Drop> Co
             });
         };
         match self.given(dest) {
-            Given::Store | Given::Ending => self.give(dest, Given::Nothing),
+            Given::Store => self.give(dest, Given::Nothing),
             Given::Intake => self.give(dest, Given::Returning),
-            Given::Nothing | Given::Returning => {}
+            Given::Nothing | Given::Returning | Given::Ending => {}
         }
-        if self.is_ending(dest) {
+        // One that was given up is not closed before its store has read it.
+        if self.is_ending(dest) || self.is_given_up_already(dest) {
             return Some(self.divert(dest, intake, to));
         }
         if let Some(sink) = self.connect_store(dest, millis, intake) {
