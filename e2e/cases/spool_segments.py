@@ -119,7 +119,7 @@ class Segments(WithSpool):
     def test_one_that_is_taken_away(self):
         """The others go out."""
         store, dest = self.store_that_reads_nothing()
-        for number, first, behind in (1, 0, 10_000), (2, 10_000, 15_000), (3, 15_000, 20_000):
+        for number, first, behind in (1, 0, 16_000), (2, 16_000, 18_000), (3, 18_000, 20_000):
             self.write(f"{dest}~{number:05}", text_of(LONG[first:behind]))
         with self.spooling([dest]) as relay:
             self.begins_to_send(store)
@@ -127,7 +127,7 @@ class Segments(WithSpool):
             store.read_on()
             self.wait_for(lambda: self.files() == [], "the others are sent")
             self.settles(relay)
-        self.assertEqual(store.lines(), LONG[:10_000] + LONG[15_000:])
+        self.assertEqual(store.lines(), LONG[:16_000] + LONG[18_000:])
 
     def test_one_that_is_a_link(self):
         """The relay does not begin."""
