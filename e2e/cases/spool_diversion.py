@@ -119,7 +119,7 @@ class Outages(Diversion):
         store, dest = self.store_that_reads_nothing()
         done = threading.Event()
         with self.diverting([dest]) as relay:
-            relay.lines(b"first 1 1\n")
+            self.queued(relay, [b"first 1 1"])
             self.wait_for(store.is_connected, "it is connected")
             slow = store.begin(store.read_slowly, 0.01, done)
             self.send_many(relay, LONG)
@@ -180,9 +180,9 @@ class Bounds(Diversion):
             log = Log(relay.child.stderr)
             relay.lines(text_of(mine))
             self.wait_for(lambda: self.dropped(relay) > 0, "the files are full")
-            for first in range(0, len(others), 500):
-                relay.lines(text_of(others[first:first + 500]))
-                self.wait_for(lambda count=first + 500: relay.report()[1][1]["offered"] == count, "they were offered")
+            for begun in range(0, len(others), 500):
+                relay.lines(text_of(others[begun:begun + 500]))
+                self.wait_for(lambda count=begun + 500: relay.report()[1][1]["offered"] == count, "they were offered")
             self.wait_for(lambda: any(b"spool full" in line for line in list(log.lines)), "the log says so")
             self.wait_for(lambda: any(b"relay spool " in line for line in list(log.lines)), "the log says how full they are")
             self.assertEqual(relay.report()[1][1]["dropped"], 0)
