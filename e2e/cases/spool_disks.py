@@ -2,6 +2,7 @@
 
 import contextlib
 import ctypes
+import errno
 import os
 import signal
 import statistics
@@ -17,7 +18,7 @@ from fixtures.program import TOP
 from fixtures.spooling import numbered, text_of
 
 LIBC = ctypes.CDLL(None, use_errno=True)
-READ_ONLY, REMOUNT, DETACH = 1, 32, 2  # flags of mount and umount
+REMOUNT, DETACH = 32, 2  # flags of mount and umount
 FUSE = os.path.join(TOP, "e2e", "fixtures", "fuse_disk.py")
 MARKS = 60  # lines whose way is timed
 BAR = 0.05  # seconds that the median of these ways may last longer
@@ -99,43 +100,23 @@ class Disks(Diversion):
 
         self.assertIn(b"spool full", self.goes_on(fill, resize))
 
-    def test_a_disk_that_is_read_only(self):
-        """The same."""
-        child, fails = self.fuse()
-        self.assertIsNone(child.poll())
-
-        def remount(flags):
-            given = (b"relayd-test", os.fsencode(self.dir), b"fuse", REMOUNT | flags, b"")
-            self.assertEqual(LIBC.mount(*given), 0, os.strerror(ctypes.get_errno()))
-
-        del fails
-        port, dest = self.away()
-        with self.diverting([dest]) as relay:
-            try:
-                remount(READ_ONLY)
-            except AssertionError:
-                self.skipTest("no file system can be made read-only here")
-            for line in range(0, MANY, STEP):
-                relay.lines(text_of(numbered(STEP, b"r%d." % line)))
-            self.wait_for(lambda: self.dropped(relay) > 0, "what has no room is dropped")
-            remount(0)
-            before = relay.report()[0][1]["dropped"]
-            self.wait_for(lambda: relay.report()[0][1]["queued"] == 0, "the files take all")
-            relay.lines(b"last 1 1\n")
-            store = self.store_at(port)
-            self.wait_for(lambda: b"last 1 1" in store.text(), "the last line has come")
-            self.assertEqual(relay.report()[0][1]["dropped"], before)
-            self.over(relay)
-
-    def test_a_disk_that_fails(self):
-        """The same."""
+    def fails_by(self, number):
+        """A disk that fails by this error; returns what the log said."""
         _, fails = self.fuse()
 
         def fail():
-            with open(fails, "wb"):
-                pass
+            with open(fails, "w", encoding="ascii") as file:
+                file.write(str(number))
 
-        self.assertIn(b"spool: cannot write", self.goes_on(fail, lambda: os.remove(fails)))
+        return self.goes_on(fail, lambda: os.remove(fails))
+
+    def test_a_disk_that_is_read_only(self):
+        """The same."""
+        self.assertIn(b"spool: cannot write", self.fails_by(errno.EROFS))
+
+    def test_a_disk_that_fails(self):
+        """The same."""
+        self.assertIn(b"spool: cannot write", self.fails_by(errno.EIO))
 
     def test_a_disk_that_hangs(self):
         """The median way of a line to another store stays; once the disk goes on, so do the files."""

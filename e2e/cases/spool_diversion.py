@@ -178,8 +178,10 @@ class Bounds(Diversion):
         with self.relay([one, other], rules, MAX_QUEUE_SIZE="2000",
                         options=("--spool", self.dir, "--spool-size", "1048576", "--log")) as relay:
             log = Log(relay.child.stderr)
-            relay.lines(text_of(mine))
-            self.wait_for(lambda: self.dropped(relay) > 0, "the files are full")
+            for begun in range(0, len(mine), 1_000):
+                relay.lines(text_of(mine[begun:begun + 1_000]))
+                self.wait_for(lambda count=begun + 1_000: relay.report()[0][1]["offered"] == count, "they were offered")
+            self.assertGreater(self.dropped(relay), 0)
             for begun in range(0, len(others), 500):
                 relay.lines(text_of(others[begun:begun + 500]))
                 self.wait_for(lambda count=begun + 500: relay.report()[1][1]["offered"] == count, "they were offered")

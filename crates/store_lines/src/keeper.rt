@@ -164,7 +164,8 @@ where
         }
         match written {
             Ok(count) if count > 0 => self.note_written(place, count),
-            Ok(_) => self.note_stall(place, millis, SpoolStall::CannotWrite),
+            // The disk has room for a part of a line alone.
+            Ok(_) => self.note_stall(place, millis, SpoolStall::Full),
             Err(error) => {
                 self.note_error(place, &error, are_last);
                 self.note_stall(place, millis, stall_of(&error));
