@@ -118,6 +118,29 @@ class Disks(Diversion):
         """The same."""
         self.assertIn(b"spool: cannot write", self.fails_by(errno.EIO))
 
+    def test_a_disk_that_fails_for_good(self):
+        """A store that is there again gets what memory holds, and then what comes."""
+        _, fails = self.fuse()
+        port, dest = self.away()
+        lines = numbered(60_000)
+        with self.diverting([dest]) as relay:
+            with open(fails, "w", encoding="ascii") as file:
+                file.write(str(errno.EIO))
+            for first in range(0, 40_000, STEP):
+                relay.lines(text_of(lines[first:first + STEP]))
+                self.wait_for(lambda count=first + STEP: relay.report()[0][1]["offered"] == count, "all were offered")
+            dropped = self.dropped(relay)
+            self.assertGreater(dropped, 0)
+            store = self.store_at(port)
+            self.wait_for(lambda: relay.report()[0][1]["queued"] == 0, "the store takes what is there")
+            self.send_many(relay, lines[40_000:])
+            self.wait_for(lambda: store.lines()[-1:] == lines[-1:], "the last one has come")
+            self.assertEqual(self.dropped(relay), dropped)
+            came = set(store.lines())
+            self.assertEqual(store.lines(), [line for line in lines if line in came], "in order, once")
+            self.assertEqual(len(came), len(lines) - dropped)
+            self.over(relay)
+
     def test_a_disk_that_hangs(self):
         """The median way of a line to another store stays; once the disk goes on, so do the files."""
         child, _ = self.fuse()

@@ -1,18 +1,40 @@
 //! Lines that were taken from an intake, and are not in a file yet.
 
+use crate::file_connection::FileConnection;
+use crate::held_text::HeldText;
 use crate::intake::{INTAKE_ROOM, Intake};
 use crate::line_count::lines_in;
-use backlog::whole_length;
+use crate::turn::Turn;
+use backlog::{Cursor, whole_length};
 use relay_base::NoMemory;
 use std::alloc::Global;
-use std::mem;
+use std::io::Write;
 use std::sync::Wait;
+use std::{io, mem};
 
-/// Whole lines that were taken from an intake, of which a first part is in a file.
+/// Whole lines that were taken from an intake, of which a first part is in a file, or at the store.
 #[derive(Drop)]
 pub struct KeptLines {
     lines: Vec<u8>,
     passed: usize,
+    // How much of what is left a connection took.
+    sent: Cursor,
+}
+
+/// Lines in memory, as a file.
+#[derive(Drop)]
+struct LinesInMemory<'a> {
+    bytes: &'a [u8],
+}
+
+impl HeldText for LinesInMemory<'_> {
+    fn read_from(&self, place: u64, piece: &mut [u8]) -> io::Result<usize> {
+        let from = (place as usize).min(self.bytes.len());
+        let (_, left) = self.bytes.split_at(from);
+        let count = left.len().min(piece.len());
+        piece[..count].copy_from_slice(&left[..count]);
+        Ok(count)
+    }
 }
 
 impl KeptLines {
@@ -21,6 +43,7 @@ impl KeptLines {
         Ok(KeptLines {
             lines: Vec::with_capacity(alloc, INTAKE_ROOM)?,
             passed: 0,
+            sent: Cursor::new(),
         })
     }
 
@@ -31,6 +54,7 @@ impl KeptLines {
         }
         self.lines.clear();
         self.passed = 0;
+        self.sent = Cursor::new();
         intake.take_lines(rt, &mut self.lines);
         self.len() > 0
     }
@@ -55,6 +79,7 @@ impl KeptLines {
         KeptLines {
             lines: mem::replace(&mut self.lines, Vec::new(alloc)),
             passed,
+            sent: Cursor::new(),
         }
     }
 
@@ -83,6 +108,28 @@ impl KeptLines {
         let (first, _) = left.split_at((room as usize).min(left.len()));
         let (whole, _) = first.split_at(whole_length(first).min(first.len()));
         whole
+    }
+
+    /// Sends some of what is left to its connection, which is given out once it took all.
+    pub fn send<W: Write + Drop>(
+        &mut self,
+        connection: &mut FileConnection<W>,
+        piece: &mut [u8],
+    ) -> Turn<W> {
+        let (_, left) = self.lines.split_at(self.passed.min(self.lines.len()));
+        let end = left.len() as u64;
+        connection.send(&LinesInMemory { bytes: left }, end, &mut self.sent, piece)
+    }
+
+    /// The connection is lost: all that is left goes out again.
+    pub fn send_again(&mut self) {
+        self.sent = Cursor::new();
+    }
+
+    /// All is at the store.
+    pub fn pass_all(&mut self) {
+        self.passed = self.lines.len();
+        self.sent = Cursor::new();
     }
 
     /// So many bytes of what is left are in a file.

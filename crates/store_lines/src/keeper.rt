@@ -43,6 +43,9 @@ pub(crate) struct KeeperRoom<'n> {
 pub(crate) struct KeptDest {
     pub(crate) lines: KeptLines,
     has_written: bool,
+    // Whether the last try to write failed, and whether a connection has some of the lines.
+    is_stalled: bool,
+    is_sending: bool,
     retry_at: u64,
     close_at: u64,
     busy_since: Option<u64>,
@@ -54,6 +57,8 @@ impl KeptDest {
         KeptDest {
             lines,
             has_written: false,
+            is_stalled: false,
+            is_sending: false,
             retry_at: 0,
             close_at: 0,
             busy_since: None,
@@ -126,7 +131,7 @@ where
             return false;
         };
         let has_taken = dest.lines.fill(&self.disk, intake);
-        if !dest.lines.are_none() && millis >= dest.retry_at {
+        if !dest.lines.are_none() && millis >= dest.retry_at && !dest.is_sending {
             self.write(place, millis, self.is_last(place));
         }
         has_taken
@@ -181,6 +186,7 @@ where
         };
         dest.retry_at = 0;
         dest.has_written = true;
+        dest.is_stalled = false;
         notes.note_stall(None);
         if notes.is_spooling() {
             let before = dest.lines.datapoints();
@@ -196,6 +202,7 @@ where
     fn note_stall(&mut self, place: usize, millis: u64, stall: SpoolStall) {
         if let Some(dest) = self.dests.get_mut(place) {
             dest.retry_at = millis.saturating_add(RETRY_MS);
+            dest.is_stalled = true;
         }
         if let Some(notes) = self.notes.get(place) {
             notes.note_stall(Some(stall));
@@ -228,14 +235,26 @@ where
         }
     }
 
-    /// Sends some of the files of a destination, once its store has ended the connection that the sender had.
+    /// Sends some of the files of a destination, once its store has ended the connection that the sender had; or, once none is left
+    /// and the disk takes no more, of the lines that could not be written.
     fn send(&mut self, place: usize, millis: u64) {
         let (Some(intake), Some(dest)) = (self.diversions.intake(place), self.dests.get_mut(place))
         else {
             return;
         };
-        if !dest.awaits_store(intake, millis) {
+        if dest.awaits_store(intake, millis) {
+            return;
+        }
+        let is_kept = dest.is_stalled && !dest.lines.are_none();
+        if !is_kept || self.connector.has_files(DestId(place)) {
             self.connector.send_files(DestId(place), millis);
+            return;
+        }
+        dest.is_sending = self
+            .connector
+            .send_kept(DestId(place), millis, &mut dest.lines);
+        if dest.lines.are_none() {
+            dest.has_written = true;
         }
     }
 
@@ -316,6 +335,19 @@ where
             None => 0,
         };
         in_files.saturating_add(in_hand).saturating_add(in_intake)
+    }
+
+    /// Gives up the connection that has lines of a destination which could not be written, if one has: they are written, or go
+    /// out again.
+    pub(crate) fn leave_kept(&mut self, place: usize) {
+        let Some(dest) = self.dests.get_mut(place) else {
+            return;
+        };
+        if dest.is_sending {
+            dest.is_sending = false;
+            dest.lines.send_again();
+            self.connector.leave_kept(DestId(place));
+        }
     }
 
     /// Writes the last lines of a destination, once its sender has ended, as far as they can be written.

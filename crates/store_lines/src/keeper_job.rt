@@ -216,6 +216,7 @@ where
 {
     let is_handing = keeper.signals.is_handing();
     for place in 0..keeper.dests.len() {
+        keeper.leave_kept(place);
         keeper.write_last(place, times.millis());
         leave_lines(rt, alloc, keeper, place, share, is_handing);
     }

@@ -14,7 +14,7 @@ use mio_loops::ReadinessFault;
 use relay_base::{DestId, MOST_DESTINATIONS, NoMemory, add};
 use run_state::{EndOrders, Signals};
 use senders::{Connect, HalfClose, KeptSocket, StoreEnd};
-use spool::{DestSpool, FileConnection, FileSink, SpoolDisk, SpoolNotes, Turn};
+use spool::{DestSpool, FileConnection, FileSink, KeptLines, SpoolDisk, SpoolNotes, Turn};
 use std::alloc::Global;
 use std::io;
 use std::io::Write;
@@ -215,6 +215,61 @@ where
     /// Whether an earlier file of a destination is not sent yet, or not known to be at its store.
     pub(crate) fn is_behind(&self, place: usize) -> bool {
         self.spool.is_behind(place) || self.spool.is_sending(place)
+    }
+
+    /// Whether files of a destination hold lines that are to be sent.
+    pub(crate) fn has_files(&self, dest: DestId) -> bool {
+        self.spool.is_behind(dest.0)
+    }
+
+    /// Sends some of the lines that no file takes, of a destination of which no file is left, and connects to it for them alone.
+    /// Returns whether a connection has some of them, and its store has not ended it.
+    pub(crate) fn send_kept(&mut self, dest: DestId, millis: u64, lines: &mut KeptLines) -> bool {
+        let Some(state) = self.spool.dests.get_mut(dest.0) else {
+            return false;
+        };
+        match state.kept_end(millis) {
+            Some(PartEnd::Open) => return true,
+            Some(PartEnd::Taken) | Some(PartEnd::NoEnd) => {
+                lines.pass_all();
+                return false;
+            }
+            Some(PartEnd::Lost) => {
+                lines.send_again();
+                return false;
+            }
+            None => {}
+        }
+        if !state.connection.is_open() {
+            let Some(sink) = self.connector.connect(dest, millis) else {
+                return false;
+            };
+            lines.send_again();
+            state.connection.keep(sink);
+        }
+        match lines.send(&mut state.connection, &mut self.spool.piece) {
+            Turn::Over(sink) => {
+                state.end = Some(FileEnd::begin(sink));
+                true
+            }
+            Turn::Kept => true,
+            Turn::GivenUp { sink, .. } => {
+                half_close(sink);
+                false
+            }
+            Turn::Broken { .. } | Turn::Lost => {
+                drop(state.connection.take());
+                false
+            }
+        }
+    }
+
+    /// Gives up the connection that has lines which no file takes.
+    pub(crate) fn leave_kept(&mut self, dest: DestId) {
+        if let Some(state) = self.spool.dests.get_mut(dest.0) {
+            drop(state.end.take());
+        }
+        self.spool.leave_connection(dest.0);
     }
 
     /// Whether the store of a destination takes more of the earlier file at once, or is about to end the connection that took a
@@ -423,6 +478,18 @@ impl<'n, W: Write + HalfClose + Drop> SenderSpool<'n, W> {
 }
 
 impl<W: Write + HalfClose + Drop> SpooledDest<W> {
+    /// What is known at these milliseconds of lines that no file takes, and a connection took, if one did.
+    fn kept_end(&mut self, millis: u64) -> Option<PartEnd> {
+        let mut end = self.end.take()?;
+        let part_end = end.look(millis, KEEPER_END_S.saturating_mul(1_000));
+        if let PartEnd::Open = part_end {
+            self.end = Some(end);
+        } else {
+            drop(end);
+        }
+        Some(part_end)
+    }
+
     /// Whether the earlier file is not sent yet.
     fn is_behind(&self) -> bool {
         match &self.spool {
