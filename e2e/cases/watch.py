@@ -281,6 +281,7 @@ class Asked(Watches):
                 self.assertIn(b"a 1 2", self.sends_until(relay, child, b"a 1 2\n"))
                 self.assertEqual(child.wait(LIMIT), 0)
             self.assertEqual(run(("stop", "--wait", "--admin", str(relay.admin), "--admin-key", path)).status, 0)
+            relay.child.wait(LIMIT)
             relay.log.thread.join(LIMIT)
 
     def test_the_client(self):
