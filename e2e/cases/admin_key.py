@@ -43,9 +43,7 @@ class AdminKey(Reloads):
 
     def ends(self, relay):
         """The relay stops, and its log has been read."""
-        self.assertEqual(self.asked(relay, "stop", "--wait"), Ran(0, b"stopping\n", b""))
-        relay.child.wait(LIMIT)
-        relay.log.thread.join(LIMIT)
+        self.stops_by_command(relay, "--admin-key", self.path("key"))
 
     def asked(self, relay, *words, key="key"):
         """How a command of a client ends, with a key or without."""

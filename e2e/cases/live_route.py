@@ -5,7 +5,7 @@ import json
 import os
 
 from fixtures.answering import answering
-from fixtures.harness import LIMIT, Ran, run
+from fixtures.harness import Ran, run
 from fixtures.reloading import Reloads
 
 MOST = 4096         # bytes of a name that is asked for
@@ -110,9 +110,7 @@ class LiveRoute(Reloads):
             for more, answer in ((b"", b"route " + expected.out), (b"\r", b"route " + expected.out), (b"x", UNKNOWN), (b"xxxxxx", UNKNOWN)):
                 text = b"key %s\r\nroute %s%s" % (key.encode(), b"x" * MOST, more)
                 self.assertEqual(relay.command(text), answer, more)
-            self.assertEqual(run(("stop", "--wait", "--admin", str(relay.admin), "--admin-key", path)).status, 0)
-            relay.child.wait(LIMIT)
-            relay.log.thread.join(LIMIT)
+            self.stops_by_command(relay, "--admin-key", path)
 
     def test_no_relay(self):
         """An older relay does not know the command; others answer as no relay does, or not."""

@@ -280,9 +280,7 @@ class Asked(Watches):
             with self.client(relay, "--admin-key", path, "--lines", "1") as child:
                 self.assertIn(b"a 1 2", self.sends_until(relay, child, b"a 1 2\n"))
                 self.assertEqual(child.wait(LIMIT), 0)
-            self.assertEqual(run(("stop", "--wait", "--admin", str(relay.admin), "--admin-key", path)).status, 0)
-            relay.child.wait(LIMIT)
-            relay.log.thread.join(LIMIT)
+            self.stops_by_command(relay, "--admin-key", path)
 
     def test_the_client(self):
         """It ends after so many lines, or seconds, and says what it has seen."""

@@ -17,7 +17,7 @@ const BATCHES: usize = 3;
 /// For how many milliseconds a watch goes on that nobody asks.
 const MOST_SILENCE_MS: u64 = 3_000;
 
-/// How many milliseconds of these pass from one look to the next at most: who asks is not heard while the thread is held up.
+/// How many milliseconds of silence one look adds at most: a thread that is held up hears no question.
 const MOST_HEARD_MS: u64 = 100;
 
 /// What is watched.

@@ -13,7 +13,7 @@ use run_state::BeginNote;
 /// The longest time that a receiver leaves a connection to the others, in milliseconds, while it holds more than one of them.
 const HOLD_MS: u64 = 2;
 
-/// What is known of a receiver: its name, how it shares the port, who is told of its first wait, and what notes pieces for a watch.
+/// What a port knows of its receiver: its name, its share of the port, the note of its first wait, and the tap of a watch.
 #[derive(Drop)]
 pub(crate) struct PortNotes<'s> {
     pub(crate) name: ReceiverName,
