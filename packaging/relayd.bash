@@ -20,7 +20,7 @@ _relayd() {
         return
     fi
     case $before in
-        --moment|--longest-name|--admin|--idle|--drain|--status|--status-interface|--dest|--seconds)
+        --moment|--longest-name|--admin|--idle|--drain|--spool-size|--status|--status-interface|--dest|--seconds)
             return ;;
         --config|--rules|--rewrite|--spool|--admin-key|--names|--lines|--record)
             _relayd_files "$word"
@@ -41,7 +41,7 @@ _relayd() {
         check) options="--config --rules --rewrite --longest-name --spool --explain --strict --json" ;;
         route) options="--config --rules --rewrite --longest-name --admin --admin-key --names --explain --strict --json" ;;
         replay) options="--config --rules --rewrite --longest-name --lines --text --explain --strict" ;;
-        run) options="--config --rules --rewrite --longest-name --admin --admin-key --senders --line-receivers --idle --drain --spool --status --status-interface --log --log-format --record --explain" ;;
+        run) options="--config --rules --rewrite --longest-name --admin --admin-key --senders --line-receivers --idle --drain --spool --spool-size --status --status-interface --log --log-format --record --explain" ;;
         report) options="--admin --admin-key --json" ;;
         watch) options="--admin --admin-key --dest --names --lines --seconds --json" ;;
         stop) options="--admin --admin-key --wait" ;;

@@ -53,6 +53,7 @@ complete -c relayd -n '__relayd_command run' -l line-receivers -x -a '1 2 3 4 5 
 complete -c relayd -n '__relayd_command run' -l idle -x -d 'Closes a connection that sends no datapoint for SECONDS, 0 to 86400; 0 closes none'
 complete -c relayd -n '__relayd_command run' -l drain -x -d 'After stop, keeps sending queued datapoints for at most SECONDS, 0 to 3600'
 complete -c relayd -n '__relayd_command run' -l spool -x -a '(__fish_complete_directories)' -d 'After stop, keeps what was not sent in files in DIR, and sends them at the next start'
+complete -c relayd -n '__relayd_command run' -l spool-size -x -d 'Keeps what queues cannot hold in DIR while it runs, in at most BYTES, 1048576 or more'
 complete -c relayd -n '__relayd_command run' -l status -x -d 'Serves a status page, JSON and metrics over HTTP on this port, 1 to 65535'
 complete -c relayd -n '__relayd_command run' -l status-interface -x -d 'The IP address that --status listens on; by default 127.0.0.1'
 complete -c relayd -n '__relayd_command run' -l log -d 'Writes events to standard error: connections made and lost, drops, bad input'

@@ -19,6 +19,7 @@ PARTS = numbered(160_000, b"p" * 200)  # two parts and some
 AGE = 185                              # seconds
 WAITS = re.compile(r"relayd_destination_spool_(\w+)\{destination=\"([^\"]*)\"\} (\d+)")
 MEMBERS = ("datapoints", "bytes", "age_seconds")
+OTHERS = ("datapoints_per_second", "room_bytes", "full")
 NOTHING = (0, 0, 0)
 WELL = "all well: 0 a second in, 0 out, nothing queued"
 
@@ -95,8 +96,8 @@ class Seen(WithSight):
             counted = self.counted(status)
             self.assertLess(counted.pop(("age_seconds", dests[0])), AGE)
             self.assertEqual(counted, {("datapoints", dests[0]): COUNT, ("bytes", dests[0]): size,
-                                       ("datapoints_per_second", dests[0]): 0}
-                             | {(kind, dests[1]): 0 for kind in (*MEMBERS, "datapoints_per_second")})
+                                       **{(kind, dests[0]): 0 for kind in OTHERS}}
+                             | {(kind, dests[1]): 0 for kind in (*MEMBERS, *OTHERS)})
             self.wait_for(lambda: self.said(status).startswith("1 of 2 away"), "the store is away")
             page = self.status_of(status, "/")
             card = page[page.index(f"<h3>{dests[0]}</h3>"):].split("</section>")[0]
@@ -248,3 +249,33 @@ class TakesOne(Store):
             self.taken[place] += stream.recv(65_536)
             self.goes_on.wait()
         super().read(stream, place)
+
+
+class Diverted(WithSight):
+    """A destination whose store is away while the relay runs, with a size for its files."""
+
+    def test_what_waits(self):
+        """Page, JSON, metrics and log say how much waits, and how much room there is."""
+        (port, away), lines = free_ports(2), numbered(12_000)
+        dest = f"127.0.0.1:{away}"
+        options = ("--spool-size", "1048576", "--status", str(port), "--log")
+        with self.spooling([dest], *options, MAX_QUEUE_SIZE="4000") as relay:
+            log = Log(relay.child.stderr)
+            for first in range(0, len(lines), 1_000):
+                self.queued(relay, lines[first:first + 1_000])
+            self.wait_for(lambda: self.waiting(port)[0] > 6_000, "most of it waits in files")
+            shows = shown(port)["destinations"][0]
+            self.assertGreater(shows["spool_room_bytes"], 0)
+            self.assertLessEqual(shows["spool_room_bytes"] + shows["spool_bytes"], 1_048_576 + 65_536)
+            self.assertIs(shows["spool_full"], False)
+            self.assertEqual(self.counted(port)["full", dest], 0)
+            self.assertRegex(self.status_of(port, "/"), r"spool: [\d,]+ datapoints, [\d.]+ .B, ")
+            store = Store(away).start()
+            self.addCleanup(store.stop)
+            self.wait_for(lambda: store.lines() == lines, "all has come")
+            self.wait_for(lambda: self.waiting(port) == NOTHING, "nothing waits")
+            self.wait_for(lambda: b"spool sent" in log.of(dest), "the log says so")
+            self.ends(relay)
+            log.thread.join()
+        said = log.of(dest)
+        self.assertLess(said.index(b"spool begins"), said.index(b"spool sent"))

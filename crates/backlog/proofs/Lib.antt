@@ -1,1 +1,3 @@
 pub mod LinesLemmas
+pub mod ConnectionsLemmas
+pub mod SegmentsLemmas

@@ -1,3 +1,4 @@
 pub mod Lines
 pub mod Place
 pub mod Laws
+pub mod Segments

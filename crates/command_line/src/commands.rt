@@ -245,6 +245,11 @@ pub(crate) static RUN: CommandWords = CommandWords {
             help: "After stop, keeps what was not sent in files in DIR, and sends them at the next start",
         },
         Word {
+            name: "spool-size",
+            form: Form::ValueWith("BYTES", "spool"),
+            help: "Keeps what queues cannot hold in DIR while it runs, in at most BYTES, 1048576 or more",
+        },
+        Word {
             name: "status",
             form: Form::Value("PORT"),
             help: "Serves a status page, JSON and metrics over HTTP on this port, 1 to 65535",

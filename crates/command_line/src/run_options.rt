@@ -14,6 +14,11 @@ const LONGEST_DRAIN_SECONDS: u64 = 3_600;
 
 const LONGEST_IDLE_SECONDS: u64 = 86_400;
 
+/// The least number of bytes that `--spool-size` takes, and the greatest.
+const LEAST_SPOOL_BYTES: u64 = 1_048_576;
+
+const MOST_SPOOL_BYTES: u64 = 1_152_921_504_606_846_976;
+
 /// What the options of `run` ask for, beside files and notes.
 #[derive(Clone, Copy)]
 pub struct RunOptions {
@@ -27,6 +32,9 @@ pub struct RunOptions {
     pub drain: u64,
     /// After how many seconds an idle connection is closed, 0 to 86,400; with 0 none is.
     pub idle: u64,
+    /// How many bytes the files of its spool may have while it runs, 1,048,576 to 1,152,921,504,606,846,976; without that they are
+    /// written at its end alone.
+    pub spool_size: Option<u64>,
     /// Where the status server listens, if any.
     pub status: Option<SocketAddr>,
     /// The form of the log, if there is one.
@@ -41,6 +49,7 @@ pub fn run_options(alloc: Global, options: &ArgMatches<'_>) -> Result<RunOptions
         line_receivers: line_receivers_option(alloc, options)?,
         drain: seconds_option(alloc, options, "drain", LONGEST_DRAIN_SECONDS)?,
         idle: seconds_option(alloc, options, "idle", LONGEST_IDLE_SECONDS)?,
+        spool_size: spool_size_option(alloc, options)?,
         status: status_option(alloc, options)?,
         log: log_option(alloc, options)?,
     })
@@ -98,6 +107,22 @@ fn refuse_form(alloc: Global, text: &str) -> Result<Option<LogForm>, Error> {
         "invalid value '{text}' for '--log-format <FORM>': not text, timed or json"
     )?;
     Err(RUN.error(alloc, ErrorKind::InvalidValue, message.as_str())?)
+}
+
+/// The bytes of `--spool-size`, if it is given.
+fn spool_size_option(alloc: Global, options: &ArgMatches<'_>) -> Result<Option<u64>, Error> {
+    let Some(text) = options.get_str("spool-size") else {
+        return Ok(None);
+    };
+    match whole_number_up_to(text, MOST_SPOOL_BYTES) {
+        Some(size) if size >= LEAST_SPOOL_BYTES => Ok(Some(size)),
+        _ => refuse(
+            alloc,
+            text,
+            "--spool-size <BYTES>",
+            "1048576 to 1152921504606846976",
+        ),
+    }
 }
 
 /// The number of `--senders`.

@@ -33,11 +33,14 @@ static OF_ERRORS: [&str; 6] = [
 ];
 
 /// What lines have whose level is `Warning`.
-static OF_WARNINGS: [&str; 20] = [
+static OF_WARNINGS: [&str; 23] = [
     " lines lost",
     " lost: ",
     " cannot connect",
     " queue full, dropping",
+    " spool begins",
+    " spool full",
+    " % full, ",
     " dropped ",
     " still looking up its host",
     " not waited for: ",

@@ -8,6 +8,9 @@ use Rattle.log_lines.specs.declared.end_lines.RelayEnd.TheVariants as relay
 
 abbrev pub dest_end_words : DestEnd → List ℕ
 dest_end_words end.FileSent = codes "spool sent"
+dest_end_words end.SpoolBegins = codes "spool begins"
+dest_end_words end.SpoolFull = codes "spool full"
+dest_end_words end.SpoolGoesOn = codes "spool goes on"
 dest_end_words end.TakesNothing = codes "not waited for: takes nothing"
 dest_end_words end.TooSlow = codes "not waited for: too slow"
 dest_end_words end.NoRoom = codes "spool: no room"
@@ -32,6 +35,8 @@ relay_end_line (relay.Spooled datapoints) =
     codes "relay stopped, " ++ decimal datapoints ++ codes " datapoints spooled\n"
 relay_end_line (relay.Unsent datapoints) =
     codes "relay stopped, " ++ decimal datapoints ++ codes " datapoints not sent\n"
+relay_end_line (relay.SpoolFilled percent bytes) =
+    codes "relay spool " ++ decimal percent ++ codes " % full, " ++ decimal bytes ++ codes " bytes\n"
 
 -- the line on a receiver that ended out of memory
 abbrev pub lost_receiver_line : List ℕ → List ℕ

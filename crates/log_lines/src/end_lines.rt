@@ -13,6 +13,12 @@ use std::fmt::Write as _;
 pub enum DestEnd {
     /// The file of an earlier run was sent to it.
     FileSent,
+    /// It is diverted to files.
+    SpoolBegins,
+    /// Its files take no more for now: they have the size that all may have, or there is no room.
+    SpoolFull,
+    /// Its files take more again.
+    SpoolGoesOn,
     /// A drain did not wait for it: it took nothing.
     TakesNothing,
     /// A drain did not wait for it: it was too slow.
@@ -31,13 +37,15 @@ pub enum DestEnd {
     GoneUnsent { datapoints: u64 },
 }
 
-/// What the relay ends with.
+/// What the relay ends with, or goes on with.
 #[derive(Clone, Copy)]
 pub enum RelayEnd {
     /// Files keep this many datapoints.
     Spooled { datapoints: u64 },
     /// This many datapoints were not sent.
     Unsent { datapoints: u64 },
+    /// It goes on, and the files of all destinations have so many of the hundred parts that they may have: so many bytes.
+    SpoolFilled { percent: u64, bytes: u64 },
 }
 
 /// Adds the line on the end of what a destination is sent. Fails when out of memory; the text may have a part of the line
@@ -57,6 +65,9 @@ fn push_dest_end_words(text: &mut String, end: DestEnd) -> Result<(), AllocError
 {
     match end {
         DestEnd::FileSent => text.push_str("spool sent"),
+        DestEnd::SpoolBegins => text.push_str("spool begins"),
+        DestEnd::SpoolFull => text.push_str("spool full"),
+        DestEnd::SpoolGoesOn => text.push_str("spool goes on"),
         DestEnd::TakesNothing => text.push_str("not waited for: takes nothing"),
         DestEnd::TooSlow => text.push_str("not waited for: too slow"),
         DestEnd::NoRoom => text.push_str("spool: no room"),
@@ -84,6 +95,9 @@ pub fn push_relay_end_line(text: &mut String, end: RelayEnd) -> Result<(), Alloc
         }
         RelayEnd::Unsent { datapoints } => {
             write!(text, "relay stopped, {datapoints} datapoints not sent\n")
+        }
+        RelayEnd::SpoolFilled { percent, bytes } => {
+            write!(text, "relay spool {percent} % full, {bytes} bytes\n")
         }
     }
 }

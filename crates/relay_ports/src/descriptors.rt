@@ -19,6 +19,10 @@ use std::sync::Arc;
 /// that of a connection to the status server, and that of a look-up.
 const KEPT_FOR_OTHERS: usize = 4;
 
+/// How many descriptors a destination has at most that is diverted to files: the connection of the keeper of these, the file that
+/// is sent, and the one that is written.
+const DIVERTED: usize = 3;
+
 /// What the descriptors of a run are for, beside its ports.
 #[derive(Clone, Copy)]
 struct Uses {
@@ -26,7 +30,7 @@ struct Uses {
     streams: usize,
     /// What threads wait with: one for each, and its alarm. A receiver of datagrams has the system's table of them.
     threads: usize,
-    /// One for each destination, and [`KEPT_FOR_OTHERS`].
+    /// One for each destination, [`DIVERTED`] more if destinations are diverted, and [`KEPT_FOR_OTHERS`].
     kept: usize,
 }
 
@@ -42,13 +46,21 @@ impl Uses {
         let datagrams = usize::from(has_datagrams);
         let streams = lines.saturating_add(pickles);
         let receivers = streams.saturating_add(datagrams);
-        let threads = receivers.saturating_add(options.senders());
+        let threads = receivers
+            .saturating_add(options.senders())
+            .saturating_add(usize::from(options.is_diverting()));
+        let of_dest = if options.is_diverting() {
+            DIVERTED + 1
+        } else {
+            1
+        };
         Uses {
             streams,
             threads: threads.saturating_mul(2).saturating_add(datagrams),
             kept: settings
                 .destinations()
                 .len()
+                .saturating_mul(of_dest)
                 .saturating_add(KEPT_FOR_OTHERS),
         }
     }
@@ -71,7 +83,8 @@ impl Uses {
 }
 
 /// How many descriptors a relay needs at least beside its ports: two for each receiver and each sender, one more for
-/// datagrams and for a connection of each receiver of connections, one for each destination, and four for other uses.
+/// datagrams and for a connection of each receiver of connections, one for each destination, and four for other uses. If
+/// destinations are diverted to files, two more for the keeper of these, and three more for each destination.
 pub fn descriptors_needed(settings: &Settings, options: RunOptions) -> usize {
     Uses::of(settings, options).least()
 }

@@ -1,6 +1,6 @@
 //! How a relay runs, apart from its files.
 
-ghost use Rattle.std.specs.Prelude.{None, Some, ◌≡◌, ◌≤◌, max, min};
+ghost use Rattle.std.specs.Prelude.{None, Some, ◌≡◌, ◌≤◌, false, max, min, true};
 
 use queue_records::MOST_SENDERS;
 use relay_base::MOST_LINE_RECEIVERS;
@@ -25,6 +25,7 @@ pub struct RunOptions {
     line_receivers: usize,
     drain: u64,
     idle: u64,
+    is_diverting: bool,
     status: Option<StatusOptions>,
     ghost few: { (1 ≤ senders) × (senders ≤ 8) },
 }
@@ -39,6 +40,7 @@ impl RunOptions {
         ensures line_receivers { result.line_receivers ≡ 1 }
         ensures drain { result.drain ≡ 0 }
         ensures idle { result.idle ≡ 0 }
+        ensures is_diverting { result.is_diverting ≡ false }
         ensures status { result.status ≡ None }
     {
         RunOptions {
@@ -47,6 +49,7 @@ impl RunOptions {
             line_receivers: 1,
             drain: 0,
             idle: 0,
+            is_diverting: false,
             status: None,
         }
     }
@@ -77,6 +80,22 @@ impl RunOptions {
         let mut options = self;
         options.idle = seconds;
         options
+    }
+
+    /// Destinations are diverted to files while the relay runs.
+    pub fn with_diversions(self) -> RunOptions
+        ensures { result ≡ record self { is_diverting = true } }
+    {
+        let mut options = self;
+        options.is_diverting = true;
+        options
+    }
+
+    /// Whether destinations are diverted to files while the relay runs.
+    pub fn is_diverting(self) -> bool
+        ensures { result ≡ self.is_diverting }
+    {
+        self.is_diverting
     }
 
     /// A status server listens there.

@@ -466,6 +466,7 @@ impl<
     fn wake_senders(&self) {
         self.relay.gate.wake_all();
         self.relay.gone_gate.wake_all();
+        self.relay.keeper_gate.wake_all();
     }
 
     fn keep_watchers(&mut self, log: Option<LogEnd<L>>, server: Option<StatusServer>) {

@@ -1,5 +1,5 @@
-//! How a run ends once the first thread has served: the receivers, of datagrams last, then the senders, at last those that
-//! watch.
+//! How a run ends once the first thread has served: the receivers, of datagrams last, then the senders, then the keeper of
+//! files, at last those that watch.
 //!
 //! If another run follows, nothing is closed: what the threads hold goes on there. What may take long, the files of destinations
 //! that are gone, is waited for while receivers and senders go on.
@@ -51,6 +51,7 @@ pub(crate) fn end_threads<
         receivers,
         senders,
         parting,
+        keeping,
         logs,
         servers,
         unused,
@@ -86,6 +87,10 @@ pub(crate) fn end_threads<
     let (senders, are_kept) = join_all(rt, alloc, senders);
     let served = served_if(are_kept, served);
     let _ends = join_all(rt, alloc, parting);
+    // Nothing goes to an intake any more.
+    signals.stop_keeper();
+    work.wake_senders();
+    let _ends = join_all(rt, alloc, keeping);
     signals.stop_watchers();
     let log = join_last(rt, logs);
     let server = match server {

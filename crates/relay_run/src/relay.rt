@@ -23,15 +23,16 @@ use senders::WakeGate;
 use std::alloc::Global;
 use std::sync::Arc;
 use std::time::Instant;
-use store_lines::{DestSlots, GoneDests};
+use store_lines::{DestSlots, Diversions, GoneDests};
 
 /// The name of the set of queues; a run has one.
 pub(crate) const NAME: u64 = 1;
 
 /// What a run is made of, and its threads borrow: its configuration and its numbers, its queues, the gate that wakes the
 /// senders, and what the threads share beside these; the orders that some get at the end; what is left for destinations
-/// between two runs, and for those that are gone, with what wakes their sender; the connections that go from one run to the
-/// next; what the first thread has for the log; and where receivers hand over what they note for a watch.
+/// between two runs, and for those that are gone, with what wakes their sender; the destinations that may be diverted to files,
+/// with what wakes the keeper of these; the connections that go from one run to the next; what the first thread has for the
+/// log; and where receivers hand over what they note for a watch.
 #[derive(Drop)]
 pub(crate) struct Relay<B: Set> {
     pub(crate) configuration: RunConfiguration,
@@ -43,6 +44,8 @@ pub(crate) struct Relay<B: Set> {
     pub(crate) slots: DestSlots,
     pub(crate) gone: GoneDests,
     pub(crate) gone_gate: WakeGate,
+    pub(crate) diversions: Diversions,
+    pub(crate) keeper_gate: WakeGate,
     pub(crate) streams: Vec<Arc<HandedStreams>>,
     pub(crate) late_news: LateNews,
     pub(crate) watches: WatchPlaces,
@@ -66,13 +69,14 @@ pub(crate) struct OpenRelay<B: Set, L> {
 }
 
 /// What the threads of a run are given, each its part: the seats at the queues, the ports of receivers, what each sender
-/// waits with, and what that to destinations that are gone does, and what those get that watch the others.
+/// waits with, and what that to destinations that are gone and the keeper of files do, and what those get that watch the others.
 #[derive(Drop)]
 pub(crate) struct Parts<B: Set, L> {
     pub(crate) seats: Seats<B>,
     pub(crate) receivers: Vec<BoundPort>,
     pub(crate) watches: Vec<Readiness>,
     pub(crate) gone_watch: Option<Readiness>,
+    pub(crate) keeper_watch: Option<Readiness>,
     pub(crate) watching: Watching<L>,
 }
 
@@ -215,11 +219,14 @@ fn open_relay<B: Set, L: Drop>(
         state,
         gone_gate,
         gone_watch,
+        mut diversions,
+        keeper_gate,
+        keeper_watch,
         watches,
     } = shared;
     let Inherited {
         notes,
-        slots,
+        mut slots,
         streams,
         gone,
         logged,
@@ -231,6 +238,7 @@ fn open_relay<B: Set, L: Drop>(
         status,
     } = ports;
     slots.note_waiting(state.spool_notes());
+    diversions.begin(&mut slots, state.spool_notes());
     OpenRelay {
         relay: Relay {
             configuration,
@@ -242,6 +250,8 @@ fn open_relay<B: Set, L: Drop>(
             slots,
             gone,
             gone_gate,
+            diversions,
+            keeper_gate,
             streams,
             late_news: LateNews::none(),
             watches: WatchPlaces::new(),
@@ -254,6 +264,7 @@ fn open_relay<B: Set, L: Drop>(
             receivers,
             watches,
             gone_watch,
+            keeper_watch,
             watching: Watching {
                 log,
                 news,

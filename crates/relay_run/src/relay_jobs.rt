@@ -3,6 +3,7 @@
 ghost use Rattle.std.specs.Prelude.{◌≡◌, true, length, IfErr};
 ghost use Rattle.relay_ports.specs.StartFault.{is_start_fault};
 
+use crate::keeper_setup::keeper_job;
 use crate::parting_setup::parting_job;
 use crate::receiver_job::ReceiverJob;
 use crate::receiver_setup::receivers_of;
@@ -18,7 +19,7 @@ use relay_watchers::{LogJob, ReceiverLog, StatusJob, Watched, watchers_of};
 use senders::HostThreads;
 use std::alloc::Global;
 use std::io::Write;
-use store_lines::PartingJob;
+use store_lines::{KeeperJob, PartingJob};
 
 /// What makes the jobs of a relay's threads.
 #[derive(Drop)]
@@ -42,6 +43,7 @@ pub(crate) fn jobs_of<'x, B: Set, R: RelayRuntime, L: Write + Drop>(
         ReceiverJob<'x, B, R>,
         SenderJob<'x, B, R>,
         PartingJob<'x, R>,
+        KeeperJob<'x, R>,
         LogJob<'x, B, L>,
         StatusJob<'x, B>,
     >,
@@ -54,6 +56,7 @@ pub(crate) fn jobs_of<'x, B: Set, R: RelayRuntime, L: Write + Drop>(
         receivers,
         watches,
         gone_watch,
+        keeper_watch,
         watching,
     } = parts;
     let Seats { doors, outlets } = seats;
@@ -69,8 +72,9 @@ pub(crate) fn jobs_of<'x, B: Set, R: RelayRuntime, L: Write + Drop>(
     let receiving = receivers_of(&maker, doors, receivers, &mut logs);
     let sending = senders_of(&maker, outlets, watches);
     let parting = parting_job(&maker, gone_watch);
+    let keeping = keeper_job(&maker, keeper_watch);
     let watching = watching_of(&maker, logs, watching);
-    all_jobs(receiving, sending, parting, watching)
+    all_jobs(receiving, sending, parting, keeping, watching)
 }
 
 /// What an earlier log has reported of each receiver is not reported again.

@@ -1,5 +1,6 @@
 //! The work of a sender's thread.
 
+use crate::run_levels::RunLevels;
 use crate::thread_end::ThreadEnd;
 use locked_queues::{Outlet, OutletRecord, Set};
 use mio_loops::{SystemTimes, WriteLog};
@@ -17,7 +18,7 @@ use store_lines::LineSender;
 #[derive(Drop)]
 pub(crate) struct SenderJob<'x, B: Set, R: Wait + SpoolDisk + Drop> {
     pub(crate) number: usize,
-    pub(crate) lines: LineSender<'x, R>,
+    pub(crate) lines: LineSender<'x, R, RunLevels<'x, B, R>>,
     pub(crate) outlet: Outlet<'x, 'x, 'x, B, R, WakeGate>,
     // Whether its thread returns what its writers did.
     pub(crate) is_recorded: bool,

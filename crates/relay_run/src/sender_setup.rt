@@ -4,7 +4,9 @@ ghost use Rattle.std.specs.Prelude.{◌≡◌, ◌≤◌, ◌<◌, true, length,
 ghost use Rattle.relay_ports.specs.StartFault.{is_start_fault};
 
 use crate::closing::output_fault;
+use crate::relay::Relay;
 use crate::relay_jobs::JobMaker;
+use crate::run_levels::RunLevels;
 use crate::runtime::RelayRuntime;
 use crate::sender_job::SenderJob;
 use locked_queues::{Outlet, OutletSeat, Set};
@@ -14,7 +16,7 @@ use relay_files::RelayFault;
 use senders::{Alarm, StoreConnector};
 use std::alloc::Global;
 use std::net::Net;
-use store_lines::{LineSender, SenderPlaces, Share};
+use store_lines::{DivertTo, LineSender, SenderPlaces, Share};
 
 /// How many sockets of a sender may become ready in one wait: a connection for each destination, and its alarm.
 const SENDER_EVENTS: usize = 128;
@@ -119,6 +121,8 @@ fn sender_job<'x, B: Set, R: RelayRuntime>(
         },
         limit: relay.shape.limit,
         orders: &relay.orders,
+        divert: divert_of(relay),
+        levels: RunLevels::new(maker.rt, relay),
         end: relay.state.end(),
     };
     Ok(SenderJob {
@@ -130,13 +134,27 @@ fn sender_job<'x, B: Set, R: RelayRuntime>(
     })
 }
 
-/// The places of a sender: for files if files keep what is not sent, and for rests if a run was before.
+/// What senders divert destinations by, if the run diverts them.
+fn divert_of<B: Set>(relay: &Relay<B>) -> Option<DivertTo<'_>> {
+    match relay.shape.spool_size {
+        Some(_) => Some(DivertTo {
+            diversions: &relay.diversions,
+            gate: &relay.keeper_gate,
+            notes: relay.state.spool_notes(),
+        }),
+        None => None,
+    }
+}
+
+/// The places of a sender: for files if files keep what is not sent, unless they have a keeper; and for rests if a run was
+/// before.
 fn places_of<'x, B: Set, R: RelayRuntime>(
     maker: &JobMaker<'x, B, R>,
 ) -> Result<SenderPlaces<'x, R>, NoMemory> {
     let relay = maker.relay;
     let dests = relay.shape.dests;
-    let files = if relay.shape.is_spooled { dests } else { 0 };
+    let has_files = relay.shape.is_spooled && relay.shape.spool_size.is_none();
+    let files = if has_files { dests } else { 0 };
     let rests = if relay.is_first { 0 } else { dests };
     let (file_notes, rest_notes) = (relay.state.spool_notes(), relay.state.rests());
     SenderPlaces::new(

@@ -27,6 +27,8 @@ pub(crate) struct Shape {
     pub(crate) is_recorded: bool,
     /// Whether what is not sent is kept.
     pub(crate) is_spooled: bool,
+    /// How many bytes files may have while the relay runs, if it diverts destinations to files.
+    pub(crate) spool_size: Option<u64>,
 }
 
 impl Shape {
@@ -46,6 +48,24 @@ impl Shape {
                 Some(status) => status.has_key,
                 None => false,
             },
+        }
+    }
+
+    /// How many bytes files may have while the relay runs, 0 if they are written at its end alone; none if nothing is kept.
+    pub(crate) fn kept_size(&self) -> Option<u64> {
+        if self.is_spooled {
+            Some(self.spool_size.unwrap_or(0))
+        } else {
+            None
+        }
+    }
+
+    /// How many destinations may be diverted to files: all or none.
+    pub(crate) fn diverted_dests(&self) -> usize {
+        if self.spool_size.is_some() {
+            self.dests
+        } else {
+            0
         }
     }
 
@@ -89,5 +109,6 @@ pub(crate) fn shape_of(settings: &Settings, ports: usize, process: &Process<'_>)
         status: options.status(),
         is_recorded: process.is_recorded,
         is_spooled: process.folder.is_some(),
+        spool_size: process.spool_size(),
     }
 }

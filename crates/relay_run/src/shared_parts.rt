@@ -13,15 +13,19 @@ use run_state::RunState;
 use senders::WakeGate;
 use std::alloc::Global;
 use std::net::Net;
+use store_lines::Diversions;
 
 /// What a relay has beside its queues: the gate that wakes the senders, what its threads share, what each sender waits with,
-/// and what that to destinations that are gone does.
+/// and what that to destinations that are gone and the keeper of files do.
 #[derive(Drop)]
 pub(crate) struct SharedParts {
     pub(crate) gate: WakeGate,
     pub(crate) state: RunState,
     pub(crate) gone_gate: WakeGate,
     pub(crate) gone_watch: Option<Readiness>,
+    pub(crate) diversions: Diversions,
+    pub(crate) keeper_gate: WakeGate,
+    pub(crate) keeper_watch: Option<Readiness>,
     pub(crate) watches: Vec<Readiness>,
 }
 
@@ -38,19 +42,24 @@ impl SharedParts {
     {
         let watches = watches_of(rt, alloc, shape.senders)?;
         let alarms = alarms_of(alloc, watches.as_slice())?;
-        let (gone_watch, gone_gate) = gone_watch_of(rt, alloc, may_be_gone)?;
+        let (gone_watch, gone_gate) = watch_of(rt, alloc, may_be_gone)?;
+        let (keeper_watch, keeper_gate) = watch_of(rt, alloc, shape.spool_size.is_some())?;
+        let diversions = Diversions::new(alloc, shape.diverted_dests())?;
         let state = RunState::new(
             alloc,
             shape.dests,
             shape.line_receivers,
             shape.drain_seconds,
-            shape.is_spooled,
+            shape.kept_size(),
         )?;
         Ok(SharedParts {
             gate: WakeGate::new(alarms),
             state,
             gone_gate,
             gone_watch,
+            diversions,
+            keeper_gate,
+            keeper_watch,
             watches,
         })
     }
@@ -62,15 +71,16 @@ impl SharedParts {
     }
 }
 
-/// What the sender to destinations that are gone waits with, and the gate that wakes it; none if none may be gone.
-fn gone_watch_of(
+/// What the sender to destinations that are gone waits with, or the keeper of files, and the gate that wakes it; none if there
+/// may be none.
+fn watch_of(
     rt: &impl Net,
     alloc: Global,
-    may_be_gone: bool,
+    may_be_one: bool,
 ) -> Result<(Option<Readiness>, WakeGate), RelayFault>
     ensures { IfErr result (λ fault. is_start_fault fault ≡ true) }
 {
-    let mut watches = watches_of(rt, alloc, usize::from(may_be_gone))?;
+    let mut watches = watches_of(rt, alloc, usize::from(may_be_one))?;
     let alarms = alarms_of(alloc, watches.as_slice())?;
     Ok((watches.pop(), WakeGate::new(alarms)))
 }

@@ -56,8 +56,8 @@ pub(crate) struct Needs {
 
 impl Needs {
     /// What a run by a configuration needs that follows this one: a port and what it waits with for each receiver, what it waits
-    /// with for each sender and that to destinations that are gone, the system's table of datagrams, and the file of each
-    /// destination that is new; a thread for each name that is new, and that of destinations that are gone.
+    /// with for each sender, that to destinations that are gone and the keeper of files, the system's table of datagrams, and the
+    /// file of each destination that is new; a thread for each name that is new, and that of destinations that are gone.
     pub(crate) fn of<B: Set>(relay: &Relay<B>, configuration: &RunConfiguration) -> Needs {
         let new = NewDests::of(
             relay.configuration.settings().destinations(),
@@ -66,7 +66,8 @@ impl Needs {
         let receivers = relay.shape.receivers;
         let waiting = receivers
             .saturating_add(relay.shape.senders)
-            .saturating_add(1);
+            .saturating_add(1)
+            .saturating_add(usize::from(relay.shape.spool_size.is_some()));
         let files = if relay.shape.is_spooled { new.count } else { 0 };
         Needs {
             descriptors: waiting

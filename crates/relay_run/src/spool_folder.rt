@@ -22,6 +22,8 @@ pub struct SpoolFolder<'a> {
     pub owner: Option<u32>,
     /// The system's limit for the size of a file, in bytes, if there is one.
     pub limit: Option<u64>,
+    /// How many bytes the files of all destinations may have while the relay runs; without that they are written at its end alone.
+    pub size: Option<u64>,
     /// Where the relay says what failed there.
     pub fault: &'a SpoolFault,
 }
@@ -31,6 +33,7 @@ impl<'a> SpoolFolder<'a> {
         FolderAt {
             path: self.path,
             owner: self.owner,
+            makes_segments: self.size.is_some(),
         }
     }
 }

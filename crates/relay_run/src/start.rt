@@ -49,6 +49,14 @@ pub(crate) struct Process<'a> {
 }
 
 impl Process<'_> {
+    /// How many bytes files may have while the relay runs, if it diverts destinations to files.
+    pub(crate) fn spool_size(&self) -> Option<u64> {
+        match self.folder {
+            Some(folder) => folder.size,
+            None => None,
+        }
+    }
+
     /// The system's limit for the size of a file, in bytes, if there is one.
     pub(crate) fn file_limit(&self) -> Option<u64> {
         match self.folder {

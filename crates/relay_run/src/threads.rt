@@ -33,6 +33,7 @@ pub(crate) struct StartedThreads<O, S> {
     pub(crate) receivers: Vec<JoinHandle<ThreadEnd<DoorRecord, FedLog>>>,
     pub(crate) senders: Vec<JoinHandle<ThreadEnd<OutletRecord, Vec<WriteLog>>>>,
     pub(crate) parting: Vec<JoinHandle<()>>,
+    pub(crate) keeping: Vec<JoinHandle<()>>,
     pub(crate) logs: Vec<JoinHandle<O>>,
     pub(crate) servers: Vec<JoinHandle<S>>,
     pub(crate) unused: Vec<DoorRecord>,
@@ -41,10 +42,14 @@ pub(crate) struct StartedThreads<O, S> {
 }
 
 impl<O, S> StartedThreads<O, S> {
-    /// Waits until all receivers and senders have begun. Returns whether they have: false if a thread could not be started, or
+    /// Waits until all receivers and senders have begun, and the keeper of files, if there is one. Returns whether they have: false if a thread could not be started, or
     /// has not the memory to begin.
     fn wait_for_begun<R: Wait + Clock>(&self, rt: &R, signals: &Signals) -> bool {
-        let count = self.receivers.len().saturating_add(self.senders.len());
+        let count = self
+            .receivers
+            .len()
+            .saturating_add(self.senders.len())
+            .saturating_add(self.keeping.len());
         self.are_all && signals.wait_for_begun(rt, count)
     }
 }
@@ -63,6 +68,7 @@ pub(crate) fn run_all_threads<
     J: ThreadWork<R, ThreadEnd<DoorRecord, FedLog>> + Send + Drop,
     K: ThreadWork<R, ThreadEnd<OutletRecord, Vec<WriteLog>>> + Send + Drop,
     G: ThreadWork<R, ()> + Send + Drop,
+    H: ThreadWork<R, ()> + Send + Drop,
     L: ThreadWork<R, O> + Send + Drop,
     V: ThreadWork<R, S> + Send + Drop,
     O: Send + Drop,
@@ -72,7 +78,7 @@ pub(crate) fn run_all_threads<
 >(
     rt: &R,
     alloc: Global,
-    jobs: Jobs<J, K, G, L, V>,
+    jobs: Jobs<J, K, G, H, L, V>,
     signals: &Signals,
     work: &mut A,
     output: &mut W,
@@ -98,6 +104,7 @@ fn run_threads<
     J: ThreadWork<R, ThreadEnd<DoorRecord, FedLog>> + Send + Drop,
     K: ThreadWork<R, ThreadEnd<OutletRecord, Vec<WriteLog>>> + Send + Drop,
     G: ThreadWork<R, ()> + Send + Drop,
+    H: ThreadWork<R, ()> + Send + Drop,
     L: ThreadWork<R, O> + Send + Drop,
     V: ThreadWork<R, S> + Send + Drop,
     O: Send + Drop,
@@ -107,7 +114,7 @@ fn run_threads<
 >(
     rt: &R,
     alloc: Global,
-    jobs: Jobs<J, K, G, L, V>,
+    jobs: Jobs<J, K, G, H, L, V>,
     signals: &Signals,
     first: WithOutput<'a, 'p, A, W>,
 ) -> (ThreadEnds, WithOutput<'a, 'p, A, W>)
@@ -120,7 +127,8 @@ fn run_threads<
         thread::scope_env(),
         rt,
         move |scope| -> (ThreadEnds, WithOutput<'_, '_, A, W>)
-            requires { IsSync R.row × IsSend J.row × IsSend K.row × IsSend G.row × IsSend L.row
+            requires { IsSync R.row × IsSend J.row × IsSend K.row × IsSend G.row × IsSend H.row
+                × IsSend L.row
                 × IsSend V.row × IsSend O.row × IsSend S.row }
             ensures same { result.1.output.ghost_name ≡ first.entry.output.ghost_name }
             ensures served { Served (opening (A.is_first first.entry.work.now))
@@ -141,6 +149,7 @@ fn run_in_scope<
     J: ThreadWork<R, ThreadEnd<DoorRecord, FedLog>> + Send + Drop + 's,
     K: ThreadWork<R, ThreadEnd<OutletRecord, Vec<WriteLog>>> + Send + Drop + 's,
     G: ThreadWork<R, ()> + Send + Drop + 's,
+    H: ThreadWork<R, ()> + Send + Drop + 's,
     L: ThreadWork<R, O> + Send + Drop + 's,
     V: ThreadWork<R, S> + Send + Drop + 's,
     O: Send + Drop + 's,
@@ -151,7 +160,7 @@ fn run_in_scope<
     scope: &Scope<'s, E>,
     rt: &'s R,
     alloc: Global,
-    jobs: Jobs<J, K, G, L, V>,
+    jobs: Jobs<J, K, G, H, L, V>,
     link: SignalLink<'s>,
     work: &mut A,
     output: &mut W,
@@ -173,6 +182,7 @@ fn start_all<
     J: ThreadWork<R, ThreadEnd<DoorRecord, FedLog>> + Send + Drop + 's,
     K: ThreadWork<R, ThreadEnd<OutletRecord, Vec<WriteLog>>> + Send + Drop + 's,
     G: ThreadWork<R, ()> + Send + Drop + 's,
+    H: ThreadWork<R, ()> + Send + Drop + 's,
     L: ThreadWork<R, O> + Send + Drop + 's,
     V: ThreadWork<R, S> + Send + Drop + 's,
     O: Send + Drop + 's,
@@ -181,13 +191,14 @@ fn start_all<
     scope: &Scope<'s, E>,
     rt: &'s R,
     alloc: Global,
-    jobs: Jobs<J, K, G, L, V>,
+    jobs: Jobs<J, K, G, H, L, V>,
     link: SignalLink<'s>,
 ) -> StartedThreads<O, S> {
     let Jobs {
         receiving,
         sending,
         parting,
+        keeping,
         logging,
         serving,
     } = jobs;
@@ -199,17 +210,24 @@ fn start_all<
     let (receivers, are_receivers) = start_each(scope, rt, alloc, receiving, link);
     let (senders, are_senders) = start_each(scope, rt, alloc, sending, link);
     let (parting, is_parting) = start_if(scope, rt, alloc, parting, link);
+    let (keeping, is_keeping) = start_if(scope, rt, alloc, keeping, link);
     let (logs, is_logging) = start_if(scope, rt, alloc, logging, link);
     let (servers, is_serving) = start_if(scope, rt, alloc, serving, link);
     StartedThreads {
         receivers,
         senders,
         parting,
+        keeping,
         logs,
         servers,
         unused,
         controls,
-        are_all: are_receivers && are_senders && is_parting && is_logging && is_serving,
+        are_all: are_receivers
+            && are_senders
+            && is_parting
+            && is_keeping
+            && is_logging
+            && is_serving,
     }
 }
 

@@ -22,8 +22,15 @@ const MOST_LOSSES: usize = 60;
 pub(crate) struct DestLook {
     pub(crate) counts: Counts,
     pub(crate) status: DestStatus,
-    pub(crate) passed: u64,
+    pub(crate) file: FileLook,
     pub(crate) millis: u64,
+}
+
+/// The file of a destination at a look: how many datapoints of it connections took in this run, and how many bytes wait.
+#[derive(Clone, Copy)]
+pub(crate) struct FileLook {
+    pub(crate) passed: u64,
+    pub(crate) bytes: u64,
 }
 
 /// How many datapoints a queue had kept since the start, at these milliseconds.
@@ -54,6 +61,9 @@ pub(crate) struct DestTrack {
     // How many datapoints of its file connections had taken in the run at the last sample, and took in each second of that.
     passed: u64,
     spool_rate: u64,
+    // How many bytes waited in it at the last sample, and by how many that grew in each second of that.
+    waiting: u64,
+    spool_growth: u64,
     // When the queue last gave something to a connection, when it was last seen to move or empty, and when it last dropped
     // something; with how many errors were noted then.
     written_at: u64,
@@ -82,6 +92,8 @@ impl DestTrack {
             rates: NO_RATES,
             passed: 0,
             spool_rate: 0,
+            waiting: 0,
+            spool_growth: 0,
             written_at: 0,
             moved_at: 0,
             dropped_at: 0,
@@ -122,9 +134,12 @@ impl DestTrack {
             dropped: now.dropped.saturating_sub(before.dropped),
         });
         self.sampled = now;
-        let passed = look.passed.saturating_sub(self.passed);
+        let passed = look.file.passed.saturating_sub(self.passed);
         self.spool_rate = a_second(passed, millis.max(1));
-        self.passed = look.passed;
+        self.passed = look.file.passed;
+        let grown = look.file.bytes.saturating_sub(self.waiting);
+        self.spool_growth = a_second(grown, millis.max(1));
+        self.waiting = look.file.bytes;
     }
 
     /// Notes when something last went wrong with the connection.
@@ -181,6 +196,11 @@ impl DestTrack {
     /// How many datapoints of its file connections took in each second of the last sample.
     pub(crate) fn spool_rate(&self) -> u64 {
         self.spool_rate
+    }
+
+    /// By how many bytes what waits in its file grew in each second of the last sample.
+    pub(crate) fn spool_growth(&self) -> u64 {
+        self.spool_growth
     }
 
     /// When its queue last gave something to a connection, in milliseconds; 0 if it never did.

@@ -4,23 +4,24 @@ ghost use Rattle.std.specs.Prelude.{◌≡◌, ◌<◌, length};
 
 use crate::dest_rest::{DestRest, RestOfAll};
 use crate::late_news::LateNews;
-use crate::log_writes::{write_dest_end, write_gone_end, write_line, write_text};
+use crate::log_writes::{write_dest_end, write_gone_end, write_line, write_relay_end, write_text};
 use crate::receiver_log::ReceiverLog;
 use conf_text::Dest;
 use locked_queues::{MOST_SENDERS, Queues, Set};
 use log_lines::{
-    DestEnd, DestStatus, LoggedDest, LoggedLookup, push_dest_line, push_lookup_line,
+    DestEnd, DestStatus, LoggedDest, LoggedLookup, RelayEnd, push_dest_line, push_lookup_line,
     push_lost_sender_line,
 };
 use mio_loops::{SystemTimes, TimeSource};
 use relay_base::{DestId, NoMemory, add};
 use run_state::{DestSources, EndState, GoneSources, Signals, ThreadWork, Unsent, bit};
-use spool::{MOST_NEWS, SpoolNotes};
+use spool::{MOST_NEWS, SpoolNotes, SpoolStall};
 use std::alloc::{AllocError, Global};
 use std::io::Write;
 use std::mem;
 use std::rt::Clock;
 use std::sync::Wait;
+use std::sync::atomic::Ordering;
 use std::time::Instant;
 
 /// The milliseconds for which the thread sleeps at most; and how many times it does between two looks at the
@@ -34,8 +35,11 @@ const PAUSES: usize = 10;
 struct ReportedDest {
     dest: LoggedDest,
     lookup: LoggedLookup,
-    // Whether an earlier file was reported as sent.
-    is_sent: bool,
+    // How often it was reported that all of its files was sent, and that one was begun.
+    sent: u64,
+    begun: u64,
+    // Why its files took no more when that was reported last.
+    stall: Option<SpoolStall>,
 }
 
 /// What a log that has ended leaves to that of the next run: its output, and what it has reported of the receivers.
@@ -62,6 +66,8 @@ pub struct LogJob<'x, B: Set, L> {
     gone_reported: u64,
     // The senders that the log has reported as out of memory, a bit each.
     lost_senders: u64,
+    // How many tenths of their size the files had when that was reported last.
+    spool_tenths: u64,
     // The first lines.
     news: String,
     output: L,
@@ -87,6 +93,42 @@ impl ReportedDest {
     }
 }
 
+impl ReportedDest {
+    /// Writes whether a destination is diverted to files, whether these take more, and whether all of them is sent: what is new of
+    /// it.
+    fn write_spool<L: Write>(
+        &mut self,
+        output: &mut L,
+        alloc: Global,
+        dest: &Dest,
+        notes: &SpoolNotes,
+    ) {
+        let (begun, sent, stall) = (notes.begun(), notes.sent(), notes.stall());
+        if self.begun != begun {
+            self.begun = begun;
+            write_dest_end(output, alloc, dest, Some(DestEnd::SpoolBegins));
+        }
+        write_dest_end(output, alloc, dest, stall_news(self.stall, stall));
+        self.stall = stall;
+        if self.sent != sent {
+            self.sent = sent;
+            write_dest_end(output, alloc, dest, Some(DestEnd::FileSent));
+        }
+    }
+}
+
+/// What is new of files that took no more for one reason, and take no more for another one now.
+fn stall_news(before: Option<SpoolStall>, now: Option<SpoolStall>) -> Option<DestEnd> {
+    match (before, now) {
+        (None, None) => None,
+        (Some(SpoolStall::Full), Some(SpoolStall::Full)) => None,
+        (Some(SpoolStall::CannotWrite), Some(SpoolStall::CannotWrite)) => None,
+        (_, Some(SpoolStall::Full)) => Some(DestEnd::SpoolFull),
+        (_, Some(SpoolStall::CannotWrite)) => Some(DestEnd::CannotWrite),
+        (Some(_), None) => Some(DestEnd::SpoolGoesOn),
+    }
+}
+
 /// What the log has reported of these destinations: what has happened to each up to now.
 fn reported_of(alloc: Global, noted: DestSources<'_>) -> Result<Vec<ReportedDest>, NoMemory> {
     let mut reported = Vec::new(alloc);
@@ -94,7 +136,9 @@ fn reported_of(alloc: Global, noted: DestSources<'_>) -> Result<Vec<ReportedDest
         let dest = ReportedDest {
             dest: logged_at(noted, place),
             lookup: LoggedLookup::new(),
-            is_sent: false,
+            sent: 0,
+            begun: 0,
+            stall: None,
         };
         add(&mut reported, dest)?;
     }
@@ -207,20 +251,35 @@ impl<'x, B: Set, L: Write + Drop> LogJob<'x, B, L> {
         write_news(&mut self.output, self.gone.files);
     }
 
-    /// Writes which destinations have been sent the files of an earlier run, each once.
+    /// Writes which destinations are diverted to files, and which have been sent theirs, at most once each a look.
     fn write_sent(&mut self, alloc: Global, signals: &Signals) {
         let Some(end) = self.noted.end else {
             return;
         };
+        if signals.senders_end() {
+            return;
+        }
         let (dests, spool_notes) = (self.noted.dests, end.spool_notes());
         for (place, reported) in self.reported.as_mut_slice().iter_mut().enumerate() {
             if let (Some(dest), Some(notes)) = (dests.get(place), spool_notes.get(place)) {
-                if !reported.is_sent && notes.has_sent() && !signals.senders_end() {
-                    reported.is_sent = true;
-                    write_dest_end(&mut self.output, alloc, dest, Some(DestEnd::FileSent));
-                }
+                reported.write_spool(&mut self.output, alloc, dest, notes);
             }
         }
+        let used = end.spool_used().load(Ordering::SeqCst);
+        self.write_filled(alloc, used, end.spool_size());
+    }
+
+    /// Writes how full the files of all destinations are that have so many bytes of this size, once they have another tenth of it.
+    fn write_filled(&mut self, alloc: Global, used: u64, size: u64) {
+        let tenths = used.saturating_mul(10).checked_div(size).unwrap_or(0);
+        if tenths > self.spool_tenths {
+            let filled = RelayEnd::SpoolFilled {
+                percent: tenths.saturating_mul(10),
+                bytes: used,
+            };
+            write_relay_end(&mut self.output, alloc, filled);
+        }
+        self.spool_tenths = tenths;
     }
 
     /// Writes which receivers and senders ended out of memory, each once.
@@ -374,6 +433,7 @@ pub(crate) fn log_to<'x, B: Set, L: Write + Drop>(
         receivers,
         gone_reported: 0,
         lost_senders: 0,
+        spool_tenths: 0,
         news,
         output,
         began,

@@ -2,7 +2,7 @@
 
 ghost use Rattle.std.specs.Prelude.{◌≤◌, length, IfOk};
 
-use crate::dest_track::{DestLook, DestTrack};
+use crate::dest_track::{DestLook, DestTrack, FileLook};
 use crate::producer_history::{ProducerHistory, SeenProducers};
 use crate::receiver_track::ReceiverTrack;
 use dest_queue::Counts;
@@ -27,7 +27,7 @@ pub(crate) struct Totals {
     pub(crate) queues: Vec<Counts>,
     pub(crate) dests: Vec<DestStatus>,
     // How many datapoints of each destination's file connections took in this run.
-    pub(crate) passed: Vec<u64>,
+    pub(crate) files: Vec<FileLook>,
     pub(crate) receivers: Vec<ReceiverCounts>,
 }
 
@@ -100,7 +100,7 @@ impl StatusHistory {
         let is_sample = millis.saturating_sub(self.sampled) >= SAMPLE_SECONDS * 1_000;
         let passed = millis.saturating_sub(self.sampled).max(1);
         let looks = now.queues.as_slice().iter().zip(now.dests.as_slice());
-        let looks = looks.zip(now.passed.as_slice());
+        let looks = looks.zip(now.files.as_slice());
         for (track, ((counts, status), of_file)) in self
             .dests
             .as_mut_slice()
@@ -110,7 +110,7 @@ impl StatusHistory {
             let look = DestLook {
                 counts: *counts,
                 status: *status,
-                passed: *of_file,
+                file: *of_file,
                 millis,
             };
             track.look(&look);

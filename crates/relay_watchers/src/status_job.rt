@@ -2,7 +2,7 @@
 
 ghost use Rattle.std.specs.Prelude.{◌≡◌, ◌<◌, length};
 
-use crate::dest_track::DestTrack;
+use crate::dest_track::{DestTrack, FileLook};
 use crate::process::SystemFacts;
 use crate::receiver_log::WatchedReceiver;
 use crate::status_history::{NO_RATES, SAMPLE_SECONDS, StatusHistory, Totals};
@@ -61,13 +61,16 @@ impl<'x, B: Set> StatusWatch<'x, B> {
         let mut totals = Totals {
             queues: Vec::new(alloc),
             dests: Vec::new(alloc),
-            passed: Vec::new(alloc),
+            files: Vec::new(alloc),
             receivers: Vec::new(alloc),
         };
         for place in 0..self.noted.dests.len() {
             let counts = self.counts_at(rt, place);
             totals.queues.push(counts)?;
-            totals.passed.push(self.noted.passed_at(place))?;
+            totals.files.push(FileLook {
+                passed: self.noted.passed_at(place),
+                bytes: self.noted.waiting_at(place).bytes,
+            })?;
             if let Some(notes) = self.noted.notes.get(place) {
                 totals.dests.push(notes.status(counts.dropped, true))?;
             }
@@ -113,6 +116,9 @@ impl<'x, B: Set> StatusWatch<'x, B> {
             snapshot.writes = notes.writes();
         }
         snapshot.spool = spool_of(self.noted.waiting_at(place), times);
+        let (room, is_full) = self.noted.room_at(place);
+        snapshot.spool.room = room;
+        snapshot.spool.is_full = is_full;
         if let Some(track) = history.dest(place) {
             add_track(&mut snapshot, track, times);
         }
@@ -214,6 +220,9 @@ fn spool_of(waiting: Waiting, times: &ViewTimes) -> SpoolSnapshot {
         bytes: waiting.bytes,
         age: waiting.age(times.clock),
         rate: 0,
+        growth: 0,
+        room: 0,
+        is_full: false,
     }
 }
 
@@ -226,6 +235,7 @@ fn add_track(snapshot: &mut DestSnapshot, track: &DestTrack, times: &ViewTimes) 
     snapshot.oldest = track.oldest(&snapshot.counts, times.millis);
     snapshot.drop_age = track.drop_age(times.millis);
     snapshot.spool.rate = track.spool_rate();
+    snapshot.spool.growth = track.spool_growth();
     if track.written_at() > 0 {
         snapshot.written_at = times.second_of(track.written_at());
     }

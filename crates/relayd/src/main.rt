@@ -176,7 +176,7 @@ where
             spool,
             explain,
         } => {
-            let own = match own_folder(rt, alloc, spool) {
+            let own = match own_folder(rt, alloc, spool, options.spool_size) {
                 Ok(own) => own,
                 Err(status) => return Ok(status),
             };
@@ -250,6 +250,10 @@ fn relay_options(options: command_line::RunOptions, has_key: bool) -> RunOptions
         .with_line_receivers(options.line_receivers)
         .with_drain(options.drain)
         .with_idle(options.idle);
+    let relay = match options.spool_size {
+        Some(_) => relay.with_diversions(),
+        None => relay,
+    };
     match options.status {
         Some(address) => relay.with_status(StatusOptions {
             address,

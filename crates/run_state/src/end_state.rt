@@ -16,19 +16,24 @@ pub struct EndState {
     drain_seconds: u64,
     taken: Vec<AtomicU64>,
     spooled: Option<Vec<SpoolNotes>>,
+    // How many bytes the files of all destinations may have while the relay runs, 0 if they are written at its end alone; and
+    // how many they have.
+    spool_size: u64,
+    spool_used: AtomicU64,
 }
 
 impl EndState {
     /// The end of a relay of this many destinations, whose connections took nothing. It drains for this many seconds at most,
-    /// not at all with 0. Refuses if out of memory.
+    /// not at all with 0. Files keep what is not sent if there is a size for them, which is 0 if they are written at its end alone.
+    /// Refuses if out of memory.
     pub(crate) fn new(
         alloc: Global,
         dests: usize,
         drain_seconds: u64,
-        is_spooled: bool,
+        spool_size: Option<u64>,
     ) -> Result<EndState, NoMemory> {
         let taken = counters(alloc, dests)?;
-        let spooled = if is_spooled {
+        let spooled = if spool_size.is_some() {
             Some(spool_notes_of(alloc, dests)?)
         } else {
             None
@@ -37,6 +42,8 @@ impl EndState {
             drain_seconds,
             taken,
             spooled,
+            spool_size: spool_size.unwrap_or(0),
+            spool_used: AtomicU64::new(0),
         })
     }
 
@@ -61,6 +68,16 @@ impl EndState {
     /// Whether files keep what is not sent.
     pub fn is_spooled(&self) -> bool {
         self.spooled.is_some()
+    }
+
+    /// How many bytes the files of all destinations may have while the relay runs; 0 if they are written at its end alone.
+    pub fn spool_size(&self) -> u64 {
+        self.spool_size
+    }
+
+    /// How many bytes the files of all destinations have while the relay runs, as their keeper knew it last.
+    pub fn spool_used(&self) -> &AtomicU64 {
+        &self.spool_used
     }
 
     /// What happens to the file of each destination; none if there are no files.

@@ -69,6 +69,14 @@ impl<'x> DestSources<'x> {
         }
     }
 
+    /// How many bytes more the files of a destination may have while the relay runs, and whether they take no more for now.
+    pub fn room_at(&self, place: usize) -> (u64, bool) {
+        match self.file_at(place) {
+            Some(notes) => (notes.room(), notes.stall().is_some()),
+            None => (0, false),
+        }
+    }
+
     /// How many datapoints of the file of a destination connections took in this run, those that went out again too.
     pub fn passed_at(&self, place: usize) -> u64 {
         match self.file_at(place) {
@@ -93,19 +101,20 @@ impl<'x> DestSources<'x> {
 
 impl RunState {
     /// The state of a run with this many destinations, and receivers of lines, without notes yet. It drains for this many
-    /// seconds at most, not at all with 0. Refuses if out of memory.
+    /// seconds at most, not at all with 0. Files keep what is not sent if there is a size for them ([`EndState::spool_size`]).
+    /// Refuses if out of memory.
     pub fn new(
         alloc: Global,
         dests: usize,
         line_receivers: usize,
         drain_seconds: u64,
-        is_spooled: bool,
+        spool_size: Option<u64>,
     ) -> Result<RunState, NoMemory> {
         Ok(RunState {
             signals: Signals::new(),
             notes: RunNotes::none(alloc),
             held: counters(alloc, line_receivers)?,
-            end: end_of(alloc, dests, drain_seconds, is_spooled)?,
+            end: end_of(alloc, dests, drain_seconds, spool_size)?,
         })
     }
 
@@ -179,10 +188,10 @@ fn end_of(
     alloc: Global,
     dests: usize,
     drain_seconds: u64,
-    is_spooled: bool,
+    spool_size: Option<u64>,
 ) -> Result<Option<EndState>, NoMemory> {
-    if drain_seconds == 0 && !is_spooled {
+    if drain_seconds == 0 && spool_size.is_none() {
         return Ok(None);
     }
-    Ok(Some(EndState::new(alloc, dests, drain_seconds, is_spooled)?))
+    Ok(Some(EndState::new(alloc, dests, drain_seconds, spool_size)?))
 }

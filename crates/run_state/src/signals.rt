@@ -19,6 +19,8 @@ pub struct Signals {
     // The connections of the senders are files from now on.
     spooling: AtomicBool,
     senders: AtomicBool,
+    // The keeper of the files is to stop.
+    keeper: AtomicBool,
     watchers: AtomicBool,
     // The status server is to stop.
     status: AtomicBool,
@@ -42,6 +44,7 @@ impl Signals {
             receivers: AtomicBool::new(false),
             spooling: AtomicBool::new(false),
             senders: AtomicBool::new(false),
+            keeper: AtomicBool::new(false),
             watchers: AtomicBool::new(false),
             status: AtomicBool::new(false),
             handing: AtomicBool::new(false),
@@ -97,6 +100,16 @@ impl Signals {
     /// Tells the senders to stop.
     pub fn stop_senders(&self) {
         self.tell(&self.senders);
+    }
+
+    /// Tells the keeper of the files to stop: the senders have ended.
+    pub fn stop_keeper(&self) {
+        self.keeper.store(true, Ordering::SeqCst);
+    }
+
+    /// Whether the keeper of the files is to stop.
+    pub fn keeper_stops(&self) -> bool {
+        self.keeper.load(Ordering::SeqCst)
     }
 
     /// Tells the status server to stop, before the others: another run follows, and nothing is to wait for it meanwhile.

@@ -47,6 +47,15 @@ pub trait Connect {
     /// The sender has ended, and asks for nothing more: what is still held for its destinations goes on elsewhere, if it does.
     fn end(&mut self) {}
 
+    /// The sender gives up the connection of a destination, which is no loss: its peer sees the end once it has read what was
+    /// written. Call it before the connection is dropped.
+    fn end_connection(&mut self, _dest: DestId) {}
+
+    /// Whether the peer of a destination's last connection, if there was one, has ended it, or lost it.
+    fn has_ended(&self, _dest: DestId) -> bool {
+        true
+    }
+
     /// Nothing more is written to the connections: their peers see the end once they have read what was written.
     fn end_writes(&mut self) {}
 

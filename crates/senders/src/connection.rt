@@ -113,6 +113,11 @@ impl Connection {
         }
     }
 
+    /// Half-closes the connection, if there is one.
+    pub(crate) fn half_close(&self) {
+        self.wire.half_close();
+    }
+
     /// A wait reported that the connection is ready.
     pub(crate) fn note_ready(&mut self) {
         self.is_ready = true;

@@ -102,6 +102,21 @@ impl Link {
         self.connection.end_writes();
     }
 
+    /// The connection takes no more, if there is one: the store sees the end once it has read what was written.
+    pub(crate) fn end_connection(&self) {
+        if let Stage::Connected = self.stage {
+            self.connection.half_close();
+        }
+    }
+
+    /// Whether the store has ended the last connection, or lost it, or there is none.
+    pub(crate) fn has_ended(&self) -> bool {
+        match self.stage {
+            Stage::Connected | Stage::Ending { .. } => self.connection.has_ended(),
+            _ => true,
+        }
+    }
+
     /// Whether the store has sent something by a connection, and may still send.
     pub(crate) fn may_send(&self) -> bool {
         self.connection.may_send()

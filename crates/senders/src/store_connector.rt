@@ -304,6 +304,19 @@ impl<'g, R: Net + Drop, L: Lookup + Drop> Connect for StoreConnector<'g, R, L> {
         kept
     }
 
+    fn end_connection(&mut self, dest: DestId) {
+        if let Some(Some(link)) = self.links.get_mut(dest.0) {
+            link.end_connection();
+        }
+    }
+
+    fn has_ended(&self, dest: DestId) -> bool {
+        match self.links.get(dest.0) {
+            Some(Some(link)) => link.has_ended(),
+            _ => true,
+        }
+    }
+
     fn end_writes(&mut self) {
         read_away(&mut self.links);
         for link in &self.links {

@@ -1,3 +1,4 @@
 pub mod EndLemmas
 pub mod HeldLemmas
+pub mod PipeLemmas
 pub mod SendingLemmas

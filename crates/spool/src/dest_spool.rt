@@ -8,6 +8,8 @@ use crate::held_file::{HeldFile, SentPart};
 use crate::held_text::end_of_lines;
 use crate::limited_file::LimitedFile;
 use crate::open_folder::{OpenFault, OpenFolder};
+use crate::segments::Segments;
+use crate::sent_table::SentPlace;
 use crate::spool_disk::SpoolDisk;
 use crate::spool_notes::SpoolNotes;
 use crate::turn::Turn;
@@ -20,16 +22,31 @@ use std::io::{ErrorKind, Write};
 use std::{io, mem};
 
 /// How many bytes are looked at together when a file goes on.
-const LOOK: usize = 4_096;
+pub(crate) const LOOK: usize = 4_096;
 
-/// The files of a destination: the one that an earlier run left, while it holds lines that are not sent, and their names.
+/// The files of a destination: the one that an earlier run left, while it holds lines that are not sent, those behind it, its
+/// segments, and their names.
 #[derive(Drop)]
 pub struct DestSpool {
-    names: FileNames,
-    owner: Option<u32>,
-    held: Option<HeldFile>,
+    pub(crate) names: FileNames,
+    pub(crate) owner: Option<u32>,
+    pub(crate) held: Option<HeldFile>,
     // Which part is sent of the file that takes what is not sent.
     sent: SentPart,
+    // The number of the segment that is held, and those behind it. The last one is written while it is open.
+    pub(crate) number: u32,
+    pub(crate) later: Segments,
+    pub(crate) tail: Option<LimitedFile<File>>,
+    // The second since 1970 at which it was last written in this run.
+    pub(crate) written_at: u64,
+    // While none is held: where it is to be noted how far the next one is sent.
+    pub(crate) place: Option<SentPlace>,
+    // Whether the store does not end connections, by what was seen at earlier segments.
+    pub(crate) has_no_end: bool,
+    // Whether the file that takes what is not sent is a segment behind others.
+    pub(crate) is_new_behind: bool,
+    // Whether files are made while the relay runs.
+    makes_segments: bool,
 }
 
 impl DestSpool {
@@ -48,6 +65,14 @@ impl DestSpool {
             owner: folder.at.owner,
             held: None,
             sent: SentPart::none(),
+            number: 0,
+            later: Segments::none(alloc),
+            tail: None,
+            written_at: 0,
+            place: None,
+            has_no_end: false,
+            is_new_behind: false,
+            makes_segments: folder.at.makes_segments,
         };
         match spool.find_held(disk, folder) {
             Ok(()) => Ok(spool),
@@ -58,13 +83,15 @@ impl DestSpool {
         }
     }
 
-    /// Finds what an earlier run left: the file, or, if there is none, what an earlier version was writing.
+    /// Finds what an earlier run left: the file, or, if there is none, what an earlier version was writing, and the segments
+    /// behind that. The news say how much waits.
     fn find_held<D: SpoolDisk>(
         &mut self,
         disk: &D,
         folder: &mut OpenFolder<'_>,
     ) -> Result<(), OpenFault> {
         let is_new_there = self.look_at_new(disk, folder)?;
+        self.find_segments(disk, folder)?;
         let found = folder.found_at(disk, self.names.held(), self.owner)?;
         self.held = self.usable(disk, folder, found)?;
         if self.held.is_none() {
@@ -74,7 +101,27 @@ impl DestSpool {
                 self.held = self.usable(disk, folder, found)?;
             }
         }
-        Ok(())
+        self.find_first(disk, folder)?;
+        self.tell_waiting(disk, folder)
+    }
+
+    /// The news of what waits, which is counted.
+    fn tell_waiting<D: SpoolDisk>(
+        &mut self,
+        disk: &D,
+        folder: &mut OpenFolder<'_>,
+    ) -> Result<(), OpenFault> {
+        if let Some(held) = &mut self.held {
+            folder.count_lines(held);
+        }
+        let waiting = self.waiting();
+        if waiting.bytes == 0 {
+            return Ok(());
+        }
+        match folder.tell_waiting(self.names.dest(), waiting, disk.seconds()) {
+            Ok(()) => Ok(()),
+            Err(fault) => Err(OpenFault::from(fault)),
+        }
     }
 
     /// Whether there is what an earlier version was writing, with whole lines. The news say so. What has none is put aside.
@@ -98,7 +145,7 @@ impl DestSpool {
     }
 
     /// What was found, if it holds lines that were not sent. One that was sent whole is removed, one without lines put aside.
-    fn usable<D: SpoolDisk>(
+    pub(crate) fn usable<D: SpoolDisk>(
         &self,
         disk: &D,
         folder: &mut OpenFolder<'_>,
@@ -115,7 +162,9 @@ impl DestSpool {
                 match self.prepare(disk, folder, &mut held, length) {
                     Ok(true) => Ok(Some(held)),
                     Ok(false) => {
-                        self.remove_sent(disk, &held);
+                        if disk.remove(self.names.held()).is_ok() {
+                            free(held.take_place());
+                        }
                         drop(held);
                         Ok(None)
                     }
@@ -140,18 +189,7 @@ impl DestSpool {
         if length > held.end() {
             self.cut(disk, folder, held, length)?;
         }
-        if !held.is_sent() {
-            folder.tell_waiting(held, &self.names, disk.seconds())?;
-        }
         Ok(!held.is_sent() || held.has_begun_line())
-    }
-
-    /// Removes the file, of which all is sent.
-    fn remove_sent<D: SpoolDisk>(&self, disk: &D, held: &HeldFile) {
-        // The record of one that cannot go says that it is sent.
-        if disk.remove(self.names.held()).is_ok() {
-            held.free();
-        }
     }
 
     /// Puts aside what is behind the whole lines of a file of this length. If that cannot be, the whole file is put aside once
@@ -178,7 +216,7 @@ impl DestSpool {
     }
 
     /// Puts a file of this length aside that has no whole line. An empty one is removed.
-    fn put_aside<D: SpoolDisk>(
+    pub(crate) fn put_aside<D: SpoolDisk>(
         &self,
         disk: &D,
         folder: &mut OpenFolder<'_>,
@@ -203,7 +241,7 @@ impl DestSpool {
     }
 
     /// Gives a file a free name. Returns that.
-    fn move_aside<D: SpoolDisk>(&self, disk: &D, path: &str) -> io::Result<String> {
+    pub(crate) fn move_aside<D: SpoolDisk>(&self, disk: &D, path: &str) -> io::Result<String> {
         let aside = self.names.free_aside(disk)?;
         match disk.give_name(path, aside.as_str()) {
             Ok(()) => Ok(aside),
@@ -247,12 +285,18 @@ impl DestSpool {
         }
     }
 
+    /// Whether a file can have the destination's name.
+    pub fn has_names(&self) -> bool {
+        self.names.are_short()
+    }
+
     /// Whether an earlier file holds lines that are to be sent.
     pub fn is_behind(&self) -> bool {
-        match &self.held {
+        let is_held = match &self.held {
             Some(held) => !held.has_failed(),
             None => false,
-        }
+        };
+        is_held || self.later.bytes() > 0
     }
 
     /// Counts what waits in the earlier file, as far as that is not counted, and notes it.
@@ -263,11 +307,16 @@ impl DestSpool {
         notes.note_waiting(self.waiting());
     }
 
-    /// What waits in the earlier file, as far as it is counted.
+    /// What waits in the earlier file and in those behind it, as far as it is counted.
     pub fn waiting(&self) -> Waiting {
-        match &self.held {
+        let held = match &self.held {
             Some(held) => held.waiting(),
             None => Waiting::nothing(),
+        };
+        Waiting {
+            datapoints: held.datapoints.saturating_add(self.later.lines()),
+            bytes: held.bytes.saturating_add(self.later.bytes()),
+            written_at: held.written_at.max(self.written_at),
         }
     }
 
@@ -345,14 +394,19 @@ impl DestSpool {
         }
     }
 
-    /// The store does not end its connection: what that took of the earlier file counts as sent, and so does the rest as soon as
+    /// The store did not end its connection within so many seconds: what that took of the earlier file counts as sent, and so does the rest as soon as
     /// the system has it. The notes say so.
-    pub fn note_no_end<D: SpoolDisk>(&mut self, disk: &D, notes: Option<&SpoolNotes>) {
+    pub fn note_no_end<D: SpoolDisk>(
+        &mut self,
+        disk: &D,
+        seconds: u64,
+        notes: Option<&SpoolNotes>,
+    ) {
         let Some(held) = &mut self.held else {
             return;
         };
         held.note_no_end();
-        note_news(notes, self.names.no_end_news());
+        note_news(notes, self.names.no_end_news(seconds));
         self.end_part(disk, notes);
     }
 
@@ -368,8 +422,18 @@ impl DestSpool {
         if !connection.goes_on() {
             return Turn::Kept;
         }
+        self.pass_failed();
+        if self.held.is_none() {
+            self.go_on_with_next(disk);
+        }
+        if self.held.is_none() && self.is_behind() {
+            // The next segment cannot be opened now. It is tried again with the next connection.
+            drop(connection.take());
+            return Turn::Lost;
+        }
         if self.is_taken_away(disk) {
-            return self.leave_taken_away(connection, notes);
+            let turn = self.leave_taken_away(connection, notes);
+            return self.kept_if_behind(turn, connection);
         }
         let turn = match &mut self.held {
             Some(held) => held.send(connection, piece, notes),
@@ -381,7 +445,25 @@ impl DestSpool {
             Turn::Lost => self.lose(connection, notes),
             Turn::Over(_) | Turn::GivenUp { .. } | Turn::Kept => {}
         }
-        turn
+        self.kept_if_behind(turn, connection)
+    }
+
+    /// A connection that a file gave up stays with the segments behind that, if there are.
+    fn kept_if_behind<W: Drop>(
+        &self,
+        turn: Turn<W>,
+        connection: &mut FileConnection<W>,
+    ) -> Turn<W> {
+        if !self.is_behind() {
+            return turn;
+        }
+        match turn {
+            Turn::GivenUp { sink, code: _ } => {
+                connection.keep(sink);
+                Turn::Kept
+            }
+            other => other,
+        }
     }
 
     /// Whether somebody removed the earlier file, or put another one there.
@@ -398,12 +480,12 @@ impl DestSpool {
         connection: &mut FileConnection<W>,
         notes: Option<&SpoolNotes>,
     ) -> Turn<W> {
-        let Some(held) = self.held.take() else {
+        let Some(mut held) = self.held.take() else {
             return Turn::Kept;
         };
         note_news(notes, self.names.taken_away_news(held.next()));
         let sink = held.end_connection(connection);
-        held.free();
+        self.pass_place(&mut held);
         drop(held);
         self.note_rest(notes);
         match sink {
@@ -432,25 +514,54 @@ impl DestSpool {
     /// somebody took it away.
     fn end_held<D: SpoolDisk>(&mut self, disk: &D) {
         let is_taken_away = self.is_taken_away(disk);
-        let Some(held) = self.held.take() else {
+        let Some(mut held) = self.held.take() else {
             return;
         };
-        if is_taken_away {
-            held.free();
-        } else if held.has_begun_line() {
-            if let Ok(aside) = self.move_aside(disk, self.names.held()) {
-                drop(aside);
-                held.free();
-            }
-        } else {
-            self.remove_sent(disk, &held);
+        self.has_no_end = held.has_no_end();
+        // The record of one that cannot go says that it is sent.
+        if is_taken_away || self.is_put_away(disk, &held) {
+            self.pass_place(&mut held);
         }
         drop(held);
     }
 
+    /// Removes a file whose lines are sent, or puts it aside if it has something behind these. Returns whether it could.
+    fn is_put_away<D: SpoolDisk>(&self, disk: &D, held: &HeldFile) -> bool {
+        if !held.has_begun_line() {
+            return disk.remove(self.names.held()).is_ok();
+        }
+        match self.move_aside(disk, self.names.held()) {
+            Ok(aside) => {
+                drop(aside);
+                true
+            }
+            Err(error) => {
+                drop(error);
+                false
+            }
+        }
+    }
+
+    /// A file is gone: the next segment is noted where it was, if there is one.
+    fn pass_place(&mut self, held: &mut HeldFile) {
+        let place = held.take_place();
+        if !self.later.are_none() {
+            self.place = place;
+            return;
+        }
+        if self.names.select(0).is_ok() {
+            self.number = 0;
+        }
+        if self.makes_segments {
+            self.place = kept(place, self.names.dest());
+        } else {
+            free(place);
+        }
+    }
+
     /// Goes on with what an earlier version was writing, if that is there.
     fn go_on_with_new<D: SpoolDisk>(&mut self, disk: &D) {
-        if self.give_new_its_name(disk) {
+        if self.later.are_none() && self.give_new_its_name(disk) {
             self.held = self.found_again(disk);
         }
     }
@@ -474,12 +585,16 @@ impl DestSpool {
         }
     }
 
-    /// The file that takes what is not sent, from now on: the earlier one, behind its lines, or a new one.
+    /// The file that takes what is not sent, from now on: the earlier one, behind its lines, or a new one. If segments are behind
+    /// that, it is another one behind these.
     pub(crate) fn begin_new<D: SpoolDisk>(
         &mut self,
         disk: &D,
         limit: Option<u64>,
     ) -> io::Result<LimitedFile<File>> {
+        if !self.later.are_none() {
+            return self.begin_behind(disk, limit);
+        }
         if let Some(held) = self.held.take() {
             let (file, end, sent) = held.into_parts();
             if is_there(disk, self.names.held(), &file) {
@@ -563,6 +678,9 @@ impl DestSpool {
         disk: &D,
         new: LimitedFile<File>,
     ) -> io::Result<()> {
+        if mem::replace(&mut self.is_new_behind, false) {
+            return self.end_behind(disk, new);
+        }
         let (end, is_whole) = (new.end(), new.is_whole());
         let file = new.into_file();
         let sent = mem::replace(&mut self.sent, SentPart::none());
@@ -572,13 +690,25 @@ impl DestSpool {
         }
         match self.end_file(disk, &file, end, is_whole) {
             Ok(()) => {
-                self.held = Some(HeldFile::new(file, end, sent));
+                let mut held = HeldFile::new(file, end, sent);
+                self.give_place(&mut held);
+                self.held = Some(held);
                 Ok(())
             }
             Err(error) => {
                 drop((file, sent));
                 Err(error)
             }
+        }
+    }
+
+    /// From now on it is noted how far a file is sent, if that can be noted and is not.
+    pub(crate) fn give_place(&mut self, held: &mut HeldFile) {
+        if held.has_place() {
+            return;
+        }
+        if let Some(place) = kept(self.place.take(), self.names.name()) {
+            held.note_at(place);
         }
     }
 
@@ -626,6 +756,25 @@ fn copy_to(to: File, file: &File, start: u64, end: u64) -> io::Result<()> {
     let mut to = to;
     copy_part(file, start, end, &mut to)?;
     to.sync_all()
+}
+
+/// A place at which a file was noted is that of the next one, if it could be written.
+fn kept(place: Option<SentPlace>, name: &str) -> Option<SentPlace> {
+    let mut place = place?;
+    if place.give_to(name) {
+        Some(place)
+    } else {
+        drop(place);
+        None
+    }
+}
+
+/// A place at which a file was noted is no file's.
+fn free(place: Option<SentPlace>) {
+    if let Some(place) = place {
+        place.free();
+        drop(place);
+    }
 }
 
 /// Notes news, if there was memory for them.

@@ -76,6 +76,11 @@ impl HeldFile {
         self.sent.place = Some(place);
     }
 
+    /// Whether it is noted how far it is sent.
+    pub(crate) fn has_place(&self) -> bool {
+        self.sent.place.is_some()
+    }
+
     /// The file.
     pub(crate) fn file(&self) -> &File {
         &self.file
@@ -104,6 +109,11 @@ impl HeldFile {
     pub(crate) fn count_lines(&mut self, piece: &mut [u8]) {
         let start = self.part_start();
         self.sent.lines.count_to(&self.file, start, self.end, piece);
+    }
+
+    /// It has so many lines, and nothing of it was sent.
+    pub(crate) fn note_lines(&mut self, lines: u64) {
+        self.sent.lines = LineCount::of(lines, self.end);
     }
 
     /// What waits in it.
@@ -222,11 +232,9 @@ impl HeldFile {
         }
     }
 
-    /// Its place is noted no more.
-    pub(crate) fn free(&self) {
-        if let Some(place) = &self.sent.place {
-            place.free();
-        }
+    /// Where it is noted how far it is sent, if it is. From now on that is not noted.
+    pub(crate) fn take_place(&mut self) -> Option<SentPlace> {
+        self.sent.place.take()
     }
 
     /// The file, where its whole lines end, and which part of them is sent.

@@ -53,6 +53,13 @@ impl<W: Write> LimitedFile<W> {
         self.written.start() == self.written.next()
     }
 
+    /// The file.
+    pub fn file(&self) -> &W
+        ensures { result.now ≡ self.now.file }
+    {
+        &self.file
+    }
+
     /// The file alone.
     pub fn into_file(self) -> W
         ensures { result ≡ self.file }

@@ -24,6 +24,15 @@ impl LineCount {
         }
     }
 
+    /// So many lines are counted, from the beginning of a file up to a place.
+    pub(crate) fn of(lines: u64, end: u64) -> LineCount {
+        LineCount {
+            lines,
+            end,
+            taken: 0,
+        }
+    }
+
     /// Counts on in a file whose whole lines end there: reads what is not counted yet. One that has become shorter is counted
     /// again from where its part begins.
     pub(crate) fn count_to<F: HeldText>(
@@ -61,6 +70,11 @@ impl LineCount {
     pub(crate) fn send_again(&mut self) {
         self.taken = 0;
     }
+}
+
+/// How many lines end in a file up to a place, as far as it can be read: piece by piece.
+pub(crate) fn lines_up_to<F: HeldText>(file: &F, end: u64, piece: &mut [u8]) -> u64 {
+    lines_between(file, 0, end, piece)
 }
 
 /// How many lines end in a file from one place up to another, as far as it can be read: piece by piece.

@@ -1,15 +1,19 @@
 //! A folder whose files are opened.
 
-use crate::file_names::{FileNames, LOCK};
+use crate::file_names::{FileNames, LOCK, segment_number};
 use crate::found_file::{FileFault, FoundFile, found_at};
 use crate::held_file::HeldFile;
 use crate::held_text::HeldText;
-use crate::sent_table::SentTable;
+use crate::line_count::lines_up_to;
+use crate::sent_table::{SentPlace, SentTable};
 use crate::spool_disk::SpoolDisk;
+use crate::waiting::Waiting;
 use memchr::memchr_iter;
-use relay_base::NoMemory;
+use relay_base::{NoMemory, add};
 use std::alloc::{AllocError, Global};
 use std::fmt::Write as _;
+use std::fs::File;
+use std::io::ErrorKind;
 
 /// How many bytes are sent, or looked at, at once.
 const PIECE: usize = 65_536;
@@ -21,6 +25,8 @@ pub struct FolderAt<'a> {
     pub path: &'a str,
     /// The user.
     pub owner: Option<u32>,
+    /// Whether files are made while the relay runs, so that each destination has a record from the start on.
+    pub makes_segments: bool,
 }
 
 /// Why the files of a folder cannot be opened.
@@ -126,6 +132,61 @@ impl<'a> OpenFolder<'a> {
         }
     }
 
+    /// The record of a destination of which no file is there, if each has one from the start on, and there is one for it.
+    pub(crate) fn record_for(&self, dest: &str) -> Option<SentPlace> {
+        if !self.at.makes_segments {
+            return None;
+        }
+        let sent = self.sent.as_ref()?;
+        match sent.record_of(dest) {
+            Some((place, _said)) => Some(place),
+            None => None,
+        }
+    }
+
+    /// Of the files of a destination none has a record but the one of this name.
+    pub(crate) fn forget_others(&self, dest: &str, name: &str) {
+        if let Some(sent) = &self.sent {
+            sent.forget_others(dest, name);
+        }
+    }
+
+    /// The numbers of the segments of a destination that are there, from 1 on, in order. Refuses a folder that cannot be read
+    /// now, and if out of memory.
+    pub(crate) fn numbers_of<D: SpoolDisk>(
+        &self,
+        disk: &D,
+        dest: &str,
+    ) -> Result<Vec<u32>, OpenFault> {
+        let names = match disk.names_in(self.alloc, self.at.path) {
+            Ok(names) => names,
+            Err(error) => {
+                // A relay finds its files without reading a folder that it may not read, where it makes no segments.
+                if error.kind() == ErrorKind::PermissionDenied && !self.at.makes_segments {
+                    drop(error);
+                    return Ok(Vec::new(self.alloc));
+                }
+                return Err(self.fault(self.at.path, FileFault::System(error)));
+            }
+        };
+        let numbers = numbers_in(self.alloc, &names, dest);
+        drop(names);
+        match numbers {
+            Ok(numbers) => Ok(numbers),
+            Err(fault) => Err(OpenFault::from(fault)),
+        }
+    }
+
+    /// How many lines a file has up to a place, as far as it can be read.
+    pub(crate) fn lines_up_to(&mut self, file: &File, end: u64) -> u64 {
+        lines_up_to(file, end, &mut self.piece)
+    }
+
+    /// Counts the lines that wait in a file.
+    pub(crate) fn count_lines(&mut self, held: &mut HeldFile) {
+        held.count_lines(&mut self.piece);
+    }
+
     /// The sending of a file goes on where it was; the news say how many lines may come twice.
     pub(crate) fn go_on(
         &mut self,
@@ -169,15 +230,13 @@ impl<'a> OpenFolder<'a> {
         }
     }
 
-    /// Counts what waits in a file at this second since 1970; the news say it.
+    /// The news of what waits for a destination at this second since 1970.
     pub(crate) fn tell_waiting(
         &mut self,
-        held: &mut HeldFile,
-        names: &FileNames,
+        dest: &str,
+        waiting: Waiting,
         clock: u64,
     ) -> Result<(), AllocError> {
-        held.count_lines(&mut self.piece);
-        let (dest, waiting) = (names.name(), held.waiting());
         let (datapoints, bytes) = (waiting.datapoints, waiting.bytes);
         let age = waiting.age(clock);
         write!(
@@ -212,4 +271,17 @@ impl<'a> OpenFolder<'a> {
             "spool: {new}: a relay was killed while it wrote this; it is sent behind {held}, and lines may come twice\n"
         )
     }
+}
+
+/// The numbers of the segments of a destination among names, from 1 on, in order. Refuses if out of memory.
+fn numbers_in(alloc: Global, names: &[String], dest: &str) -> Result<Vec<u32>, NoMemory> {
+    let mut numbers = Vec::new(alloc);
+    for name in names {
+        match segment_number(name.as_str(), dest) {
+            Some(0) | None => {}
+            Some(number) => add(&mut numbers, number)?,
+        }
+    }
+    numbers.sort_unstable_by_key(|number| *number);
+    Ok(numbers)
 }

@@ -1,5 +1,6 @@
 //! How far files were sent.
 
+use crate::file_names::segment_number;
 use crate::held_text::HeldText;
 use crate::spool_disk::SpoolDisk;
 use relay_base::{NoMemory, utf8_text, whole_number_up_to};
@@ -80,7 +81,7 @@ impl SentTable {
             return Some((self.place_at(at)?, said));
         }
         let (at, _) = self.find("")?;
-        let place = self.place_at(at)?;
+        let mut place = self.place_at(at)?;
         if !place.give_to(name) {
             return None;
         }
@@ -91,6 +92,21 @@ impl SentTable {
     pub(crate) fn forget(&self, name: &str) {
         if let Some((at, _)) = self.find(name) {
             write_record(&self.file, at, &blank_record());
+        }
+    }
+
+    /// Of the files of a destination none has a record but the one of this name.
+    pub(crate) fn forget_others(&self, dest: &str, name: &str) {
+        for number in 0..self.count.min(MOST_RECORDS) {
+            let at = number.saturating_mul(RECORD as u64);
+            let mut record = [b' '; RECORD];
+            if self.file.read_at(&mut record, at).is_err() {
+                return;
+            }
+            let said = name_in(&record);
+            if said != name && segment_number(said, dest).is_some() {
+                write_record(&self.file, at, &blank_record());
+            }
         }
     }
 
@@ -136,7 +152,8 @@ impl SentRecord {
 
 impl SentPlace {
     /// Makes the record that of a file of which nothing is sent. Returns whether it could be written.
-    fn give_to(&self, name: &str) -> bool {
+    pub(crate) fn give_to(&mut self, name: &str) -> bool {
+        self.noted = 0;
         let mut record = blank_record();
         put_number(&mut record, 0, 0);
         put_number(&mut record, SUM, 0);

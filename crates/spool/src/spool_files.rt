@@ -1,7 +1,7 @@
 //! The files of all destinations.
 
 use crate::dest_spool::DestSpool;
-use crate::file_names::fits_name;
+use crate::file_names::{fits_name, segment_dest};
 use crate::open_folder::{FolderAt, OpenFault, OpenFolder};
 use crate::spool_disk::SpoolDisk;
 use conf_text::Dest;
@@ -125,14 +125,15 @@ fn tell_stranger(news: &mut String, folder: &str, name: &str) -> Result<(), Allo
     )
 }
 
-/// Whether a name in a folder is that of a file which no destination has: it has no sign `~`, and is no destination's text.
+/// Whether a name in a folder is that of a file which no destination has: it is no destination's text, or that before the sign
+/// `~` and the number of a segment. One with another sign `~` is none.
 pub fn is_of_no_destination(alloc: Global, name: &str, dests: &[Dest]) -> Result<bool, NoMemory> {
-    if name.contains('~') {
+    let Some(own) = segment_dest(name) else {
         return Ok(false);
-    }
+    };
     for dest in dests {
         let text = format!(in alloc; "{dest}")?;
-        if text.as_str() == name {
+        if text.as_str() == own {
             return Ok(false);
         }
     }

@@ -13,9 +13,15 @@ pub const MOST_NEWS: usize = 8;
 /// same time.
 #[derive(Drop)]
 pub struct SpoolNotes {
-    // An earlier file is not sent yet, so that the connection takes nothing of the queue; and whether one was sent.
+    // An earlier file is not sent yet, so that the connection takes nothing of the queue; how often one was sent; and how often
+    // one was begun while the relay ran.
     is_behind: AtomicBool,
-    has_sent: AtomicBool,
+    sent: AtomicU64,
+    begun: AtomicU64,
+    // Why files take no more now, while the relay runs: the number of a `SpoolStall`, 0 if they do.
+    stall: AtomicU64,
+    // How many bytes more its files may have, while the relay runs.
+    room: AtomicU64,
     // Its last connection is its new file, which took these bytes and datapoints.
     is_spooling: AtomicBool,
     bytes: AtomicU64,
@@ -24,6 +30,7 @@ pub struct SpoolNotes {
     has_failed: AtomicBool,
     has_no_room: AtomicBool,
     is_lost: AtomicBool,
+    lost: AtomicU64,
     error: AtomicI32,
     // What is to be said of the earlier file, and how much of that was taken.
     news: [OnceLock<String>; MOST_NEWS],
@@ -33,6 +40,15 @@ pub struct SpoolNotes {
     waiting_bytes: AtomicU64,
     written_at: AtomicU64,
     passed: AtomicU64,
+}
+
+/// Why the files of a destination take no more for now, while the relay runs.
+#[derive(Clone, Copy)]
+pub enum SpoolStall {
+    /// They have the size that all may have, or there is no room on the disk.
+    Full,
+    /// The disk does not take them.
+    CannotWrite,
 }
 
 /// Why a new file took no more.
@@ -49,13 +65,17 @@ impl SpoolNotes {
     pub fn new() -> SpoolNotes {
         SpoolNotes {
             is_behind: AtomicBool::new(false),
-            has_sent: AtomicBool::new(false),
+            sent: AtomicU64::new(0),
+            begun: AtomicU64::new(0),
+            stall: AtomicU64::new(0),
+            room: AtomicU64::new(0),
             is_spooling: AtomicBool::new(false),
             bytes: AtomicU64::new(0),
             datapoints: AtomicU64::new(0),
             has_failed: AtomicBool::new(false),
             has_no_room: AtomicBool::new(false),
             is_lost: AtomicBool::new(false),
+            lost: AtomicU64::new(0),
             error: AtomicI32::new(0),
             news: [
                 OnceLock::new(),
@@ -82,8 +102,50 @@ impl SpoolNotes {
 
     /// The earlier file is sent, or given up.
     pub fn note_sent(&self, is_whole: bool) {
-        self.has_sent.store(is_whole, Ordering::SeqCst);
+        if is_whole {
+            let _sent = self.sent.fetch_add(1, Ordering::SeqCst);
+        }
         self.is_behind.store(false, Ordering::SeqCst);
+    }
+
+    /// A file is begun while the relay runs.
+    pub fn note_begun(&self) {
+        let _begun = self.begun.fetch_add(1, Ordering::SeqCst);
+        self.is_behind.store(true, Ordering::SeqCst);
+    }
+
+    /// How often a file was begun while the relay ran.
+    pub fn begun(&self) -> u64 {
+        self.begun.load(Ordering::SeqCst)
+    }
+
+    /// Files take no more for this, or take more again.
+    pub fn note_stall(&self, stall: Option<SpoolStall>) {
+        let number = match stall {
+            None => 0,
+            Some(SpoolStall::Full) => 1,
+            Some(SpoolStall::CannotWrite) => 2,
+        };
+        self.stall.store(number, Ordering::SeqCst);
+    }
+
+    /// Files may have so many bytes more.
+    pub fn note_room(&self, room: u64) {
+        self.room.store(room, Ordering::SeqCst);
+    }
+
+    /// How many bytes more files may have while the relay runs; 0 if they are written at its end alone.
+    pub fn room(&self) -> u64 {
+        self.room.load(Ordering::SeqCst)
+    }
+
+    /// Why files take no more for now.
+    pub fn stall(&self) -> Option<SpoolStall> {
+        match self.stall.load(Ordering::SeqCst) {
+            1 => Some(SpoolStall::Full),
+            2 => Some(SpoolStall::CannotWrite),
+            _ => None,
+        }
     }
 
     /// Whether an earlier file is not sent yet.
@@ -91,9 +153,9 @@ impl SpoolNotes {
         self.is_behind.load(Ordering::SeqCst)
     }
 
-    /// Whether an earlier file was sent.
-    pub fn has_sent(&self) -> bool {
-        self.has_sent.load(Ordering::SeqCst)
+    /// How often an earlier file was sent.
+    pub fn sent(&self) -> u64 {
+        self.sent.load(Ordering::SeqCst)
     }
 
     /// The last connection is the new file.
@@ -117,14 +179,20 @@ impl SpoolNotes {
         self.bytes.load(Ordering::SeqCst)
     }
 
-    /// How many datapoints the new file took, and how many of these are kept.
+    /// How many datapoints the new file took, with those that it lost, and how many of these are kept.
     pub fn datapoints(&self) -> (u64, u64) {
-        let taken = self.datapoints.load(Ordering::SeqCst);
+        let kept = self.datapoints.load(Ordering::SeqCst);
+        let taken = kept.saturating_add(self.lost.load(Ordering::SeqCst));
         if self.is_lost.load(Ordering::SeqCst) {
             (taken, 0)
         } else {
-            (taken, taken)
+            (taken, kept)
         }
+    }
+
+    /// So many datapoints were to go to a file, and did not.
+    pub fn note_left_out(&self, datapoints: u64) {
+        let _lost = self.lost.fetch_add(datapoints, Ordering::SeqCst);
     }
 
     /// The new file takes no more, by this error.

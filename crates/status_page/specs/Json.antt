@@ -93,13 +93,19 @@ progress_json d =
     ++ (member (codes "stalled_seconds") d.stalled
     ++ (member (codes "oldest_queued_milliseconds") d.oldest))))
 
--- what waits in its file, and how fast that goes out
+-- whether its files take no more
+unfoldable pub full_json : Bool → List ℕ
+full_json is_full = codes ",\"spool_full\":" ++ truth_json is_full
+
+-- what waits in its file, how fast that goes out, and whether more has room
 unfoldable pub spool_json : SpoolSnapshot → List ℕ
 spool_json s =
     member (codes "spool_datapoints") s.datapoints
     ++ (member (codes "spool_bytes") s.bytes
     ++ (member (codes "spool_age_seconds") s.age
-    ++ (member (codes "spool_datapoints_per_second") s.rate)))
+    ++ (member (codes "spool_datapoints_per_second") s.rate
+    ++ (member (codes "spool_room_bytes") s.room
+    ++ full_json s.is_full))))
 
 -- a destination
 unfoldable pub dest_json : DestSnapshot → List ℕ

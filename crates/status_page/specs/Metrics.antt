@@ -51,6 +51,8 @@ dest_value dest.SpoolDatapoints d = d.spool.datapoints
 dest_value dest.SpoolBytes d = d.spool.bytes
 dest_value dest.SpoolAge d = d.spool.age
 dest_value dest.SpoolRate d = d.spool.rate
+dest_value dest.SpoolRoom d = d.spool.room
+dest_value dest.SpoolFull d = truth_number d.spool.is_full
 dest_value dest.Since d = d.since
 
 -- the power of ten of its numbers: thousandths of a second, or none
@@ -75,6 +77,8 @@ dest_scale dest.SpoolDatapoints = codes ""
 dest_scale dest.SpoolBytes = codes ""
 dest_scale dest.SpoolAge = codes ""
 dest_scale dest.SpoolRate = codes ""
+dest_scale dest.SpoolRoom = codes ""
+dest_scale dest.SpoolFull = codes ""
 dest_scale dest.Since = codes ""
 
 -- a number at the end of a line, with a power of ten or none
@@ -185,7 +189,9 @@ spool_metrics dests =
     dest_family (codes "relayd_destination_spool_datapoints") (codes "The datapoints that wait in its file.") (codes "gauge") dest.SpoolDatapoints dests
     ++ (dest_family (codes "relayd_destination_spool_bytes") (codes "Their bytes.") (codes "gauge") dest.SpoolBytes dests
     ++ (dest_family (codes "relayd_destination_spool_age_seconds") (codes "How long ago its file was last written; 0 if nothing waits there.") (codes "gauge") dest.SpoolAge dests
-    ++ (dest_family (codes "relayd_destination_spool_datapoints_per_second") (codes "The datapoints of its file that connections took in each second of the last sample.") (codes "gauge") dest.SpoolRate dests)))
+    ++ (dest_family (codes "relayd_destination_spool_datapoints_per_second") (codes "The datapoints of its file that connections took in each second of the last sample.") (codes "gauge") dest.SpoolRate dests
+    ++ (dest_family (codes "relayd_destination_spool_room_bytes") (codes "How many bytes more its files may have while the relay runs.") (codes "gauge") dest.SpoolRoom dests
+    ++ (dest_family (codes "relayd_destination_spool_full") (codes "Whether its files take no more for now.") (codes "gauge") dest.SpoolFull dests)))))
 
 -- what has another name now, and goes with the next release
 unfoldable pub old_dest_metrics : List DestSnapshot → List ℕ

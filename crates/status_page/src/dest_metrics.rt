@@ -33,6 +33,8 @@ pub(crate) enum DestMetric {
     SpoolBytes,
     SpoolAge,
     SpoolRate,
+    SpoolRoom,
+    SpoolFull,
     Since,
 }
 
@@ -235,6 +237,22 @@ fn push_spools(text: &mut String, dests: &[DestSnapshot]) -> Result<(), AllocErr
         "gauge",
         DestMetric::SpoolRate,
         dests,
+    )?;
+    push_dest_family(
+        text,
+        "relayd_destination_spool_room_bytes",
+        "How many bytes more its files may have while the relay runs.",
+        "gauge",
+        DestMetric::SpoolRoom,
+        dests,
+    )?;
+    push_dest_family(
+        text,
+        "relayd_destination_spool_full",
+        "Whether its files take no more for now.",
+        "gauge",
+        DestMetric::SpoolFull,
+        dests,
     )
 }
 
@@ -329,6 +347,8 @@ fn dest_value(metric: DestMetric, dest: &DestSnapshot) -> u64
         DestMetric::SpoolBytes => dest.spool.bytes,
         DestMetric::SpoolAge => dest.spool.age,
         DestMetric::SpoolRate => dest.spool.rate,
+        DestMetric::SpoolRoom => dest.spool.room,
+        DestMetric::SpoolFull => truth_number(dest.spool.is_full),
         DestMetric::Since => dest.since,
     }
 }

@@ -3,7 +3,7 @@
 ghost use Rattle.std.specs.Prelude.{◌≡◌, ◌++◌, OnOk};
 ghost use Rattle.std.specs.String.{string_bytes};
 ghost use Rattle.std.specs.List.{flat_map};
-ghost use Rattle.status_page.specs.Json.{listed, next_one, truth_json, error_json, counts_json, rates_json, connection_json, dest_name, dest_numbers, last_error_json, dest_json, connection_counts_json, progress_json, spool_json};
+ghost use Rattle.status_page.specs.Json.{listed, next_one, truth_json, error_json, counts_json, rates_json, connection_json, dest_name, dest_numbers, last_error_json, dest_json, connection_counts_json, progress_json, full_json, spool_json};
 
 use crate::json::push_member;
 use crate::snapshot::{ConnectionCounts, DestSnapshot, Rates, SpoolSnapshot};
@@ -83,6 +83,15 @@ fn push_connection(text: &mut String, dest: &DestSnapshot) -> Result<(), AllocEr
     push_member(text, "since_seconds", dest.since)
 }
 
+/// Adds whether its files take no more.
+#[tactic(auto, unfolding(crate::specs::Json::full_json))]
+fn push_full(text: &mut String, is_full: bool) -> Result<(), AllocError>
+    ensures { OnOk result (string_bytes text.new ≡ string_bytes text.old ++ full_json is_full) }
+{
+    text.push_str(",\"spool_full\":")?;
+    push_truth(text, is_full)
+}
+
 #[tactic(auto, unfolding(crate::specs::Json::truth_json))]
 fn push_truth(text: &mut String, is_so: bool) -> Result<(), AllocError>
     ensures { OnOk result (string_bytes text.new ≡ string_bytes text.old ++ truth_json is_so) }
@@ -142,7 +151,9 @@ fn push_spool(text: &mut String, spool: &SpoolSnapshot) -> Result<(), AllocError
     push_member(text, "spool_datapoints", spool.datapoints)?;
     push_member(text, "spool_bytes", spool.bytes)?;
     push_member(text, "spool_age_seconds", spool.age)?;
-    push_member(text, "spool_datapoints_per_second", spool.rate)
+    push_member(text, "spool_datapoints_per_second", spool.rate)?;
+    push_member(text, "spool_room_bytes", spool.room)?;
+    push_full(text, spool.is_full)
 }
 
 /// Adds an error, or `null` if there is none.

@@ -121,6 +121,12 @@ pub struct SpoolSnapshot {
     pub age: u64,
     /// How many of the datapoints went out in each second of the last sample.
     pub rate: u64,
+    /// By how many bytes they grew in each second of the last sample.
+    pub growth: u64,
+    /// How many bytes more its files may have while the relay runs; 0 if they are written at its end alone.
+    pub room: u64,
+    /// Whether they take no more for now.
+    pub is_full: bool,
 }
 
 /// How often a destination was connected, lost its connection and could not be connected.

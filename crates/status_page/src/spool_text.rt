@@ -9,7 +9,7 @@ pub(crate) fn is_waiting(spool: &SpoolSnapshot) -> bool {
     spool.bytes > 0
 }
 
-/// Adds what waits in a file: how much, since when, and how fast it goes out.
+/// Adds what waits in a file: how much, since when, how fast it goes out, and when there is no more room.
 pub(crate) fn push_waiting(text: &mut String, spool: &SpoolSnapshot) -> Result<(), AllocError> {
     text.push_str("spool: ")?;
     push_count(text, spool.datapoints)?;
@@ -23,7 +23,21 @@ pub(crate) fn push_waiting(text: &mut String, spool: &SpoolSnapshot) -> Result<(
         push_count(text, spool.rate)?;
         text.push_str(" a second")?;
     }
-    Ok(())
+    push_full(text, spool)
+}
+
+/// Adds when its files will take no more, if they grow.
+fn push_full(text: &mut String, spool: &SpoolSnapshot) -> Result<(), AllocError> {
+    if spool.is_full {
+        return text.push_str(", full");
+    }
+    match spool.room.checked_div(spool.growth) {
+        Some(seconds) if spool.room > 0 => {
+            text.push_str(", full in ")?;
+            push_duration(text, seconds)
+        }
+        _ => Ok(()),
+    }
 }
 
 /// What waits in the files of all destinations: how many have some, and the datapoints.

@@ -4,13 +4,13 @@ use crate::left_dest::LeftDest;
 use handover::Rest;
 use relay_base::{NoMemory, add};
 use senders::KeptSocket;
-use spool::{DestSpool, SpoolNotes};
+use spool::{DestSpool, KeptLines, SpoolNotes};
 use std::alloc::Global;
 use std::mem;
-use std::sync::Mutex;
+use std::sync::{Mutex, Wait};
 
 /// For each destination what is left of it, while its sender does not have that: before the sender has begun, and after it has
-/// ended. No two threads are at a slot at once.
+/// ended. No two threads are at a slot at once, but for the keeper of the files, which takes these while a sender takes the rest.
 #[derive(Drop)]
 pub struct DestSlots {
     slots: Vec<Mutex<LeftDest>>,
@@ -46,6 +46,31 @@ impl DestSlots {
                 None => LeftDest::none(),
             },
             None => LeftDest::none(),
+        }
+    }
+
+    /// Takes what is left of a destination but for its files, which the keeper of the files takes.
+    pub(crate) fn take_rests<R: Wait>(&self, rt: &R, place: usize) -> LeftDest {
+        match self.slots.get(place) {
+            Some(slot) => slot.lock(rt).take_rests(),
+            None => LeftDest::none(),
+        }
+    }
+
+    /// Takes the files of a destination.
+    pub(crate) fn take_files<R: Wait>(&self, rt: &R, place: usize) -> LeftDest {
+        match self.slots.get(place) {
+            Some(slot) => slot.lock(rt).take_files(),
+            None => LeftDest::none(),
+        }
+    }
+
+    /// Leaves lines that could not be written to files.
+    pub(crate) fn leave_lines(&self, place: usize, lines: KeptLines) {
+        if let Some(slot) = self.slots.get(place) {
+            if let Some(mut left) = slot.try_lock() {
+                left.lines = Some(lines);
+            }
         }
     }
 

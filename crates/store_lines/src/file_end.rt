@@ -2,9 +2,6 @@
 
 use senders::{HalfClose, StoreEnd};
 
-/// How many milliseconds a store may take to end it.
-const LONGEST_END_MS: u64 = 5_000;
-
 /// A connection that took a part of a file. It is half-closed, and its store ends it once that has read all.
 #[derive(Drop)]
 pub(crate) struct FileEnd<W> {
@@ -34,15 +31,15 @@ impl<W: HalfClose> FileEnd<W> {
         FileEnd { sink, until: None }
     }
 
-    /// What is known of the part at these milliseconds.
-    pub(crate) fn look(&mut self, millis: u64) -> PartEnd {
+    /// What is known of the part at these milliseconds, where a store may take so many to end a connection.
+    pub(crate) fn look(&mut self, millis: u64, longest: u64) -> PartEnd {
         match self.sink.store_end() {
             StoreEnd::Orderly => PartEnd::Taken,
             StoreEnd::Lost => PartEnd::Lost,
             StoreEnd::NotYet => {
                 let until = match self.until {
                     Some(until) => until,
-                    None => millis.saturating_add(LONGEST_END_MS),
+                    None => millis.saturating_add(longest),
                 };
                 self.until = Some(until);
                 if millis >= until {

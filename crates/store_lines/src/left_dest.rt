@@ -6,7 +6,7 @@ use handover::Rest;
 use relay_base::DestId;
 use run_state::Signals;
 use senders::{Connect, KeptSocket};
-use spool::{DestSpool, SpoolNotes};
+use spool::{DestSpool, KeptLines, SpoolNotes};
 
 /// What a run that has ended leaves for a destination: what its sender had in hand with what its queue held, the files, and the
 /// connection's socket. The socket goes out with the earlier file, if that is not sent yet, and otherwise with the rest.
@@ -22,6 +22,8 @@ pub struct LeftDest {
     pub files: Option<DestSpool>,
     /// The connection's socket.
     pub socket: Option<KeptSocket>,
+    /// Lines that were to go to the files of a run that diverts destinations, and could not be written.
+    pub lines: Option<KeptLines>,
 }
 
 impl LeftDest {
@@ -39,6 +41,7 @@ impl LeftDest {
             later: None,
             files,
             socket: None,
+            lines: None,
         }
     }
 
@@ -84,6 +87,38 @@ impl LeftDest {
         }
     }
 
+    /// Takes the files, with the lines that are behind them, and the socket that the earlier one goes out on, if there is one.
+    pub(crate) fn take_files(&mut self) -> LeftDest {
+        let socket = if self.is_behind_file() {
+            self.socket.take()
+        } else {
+            None
+        };
+        LeftDest {
+            rest: None,
+            later: None,
+            files: self.files.take(),
+            socket,
+            lines: self.lines.take(),
+        }
+    }
+
+    /// Takes all but the files, the lines that are behind them, and the socket that the earlier one goes out on, if there is one.
+    pub(crate) fn take_rests(&mut self) -> LeftDest {
+        let socket = if self.is_behind_file() {
+            None
+        } else {
+            self.socket.take()
+        };
+        LeftDest {
+            rest: self.rest.take(),
+            later: self.later.take(),
+            files: None,
+            socket,
+            lines: None,
+        }
+    }
+
     /// How many datapoints wait behind the hand, and how many are in it.
     pub fn counts(&self) -> (usize, usize) {
         let (queued, in_hand) = counts_of(&self.rest);
@@ -93,13 +128,24 @@ impl LeftDest {
 
     /// Whether no datapoint is left, and no connection.
     pub fn is_nothing(&self) -> bool {
-        self.counts() == (0, 0) && !self.is_behind_file() && self.socket.is_none()
+        self.counts() == (0, 0)
+            && !self.is_behind_file()
+            && self.socket.is_none()
+            && self.lines.is_none()
     }
 
     /// Notes what waits in the files, as far as it is counted.
     pub(crate) fn note_waiting(&self, notes: &SpoolNotes) {
         if let Some(files) = &self.files {
             notes.note_waiting(files.waiting());
+        }
+    }
+
+    /// Whether there are files, and one can have the destination's name.
+    pub(crate) fn has_names(&self) -> bool {
+        match &self.files {
+            Some(files) => files.has_names(),
+            None => false,
         }
     }
 

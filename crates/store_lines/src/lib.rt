@@ -10,8 +10,13 @@
 mod counted_connector;
 mod dest_list;
 mod dest_slots;
+mod diversions;
+mod divert_connector;
+mod divert_sink;
 mod file_end;
 mod gone_dests;
+mod keeper;
+mod keeper_job;
 mod left_dest;
 mod line_sender;
 mod parting_job;
@@ -22,7 +27,9 @@ mod spool_connector;
 mod spool_left;
 
 pub use dest_slots::DestSlots;
+pub use diversions::{Diversions, DivertTo, QueueLevels};
 pub use gone_dests::{GoneDests, PartingDest};
+pub use keeper_job::{KeeperJob, KeeperPlaces};
 pub use left_dest::{LeftDest, counts_of};
 pub use line_sender::LineSender;
 pub use parting_job::PartingJob;

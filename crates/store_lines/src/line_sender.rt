@@ -5,6 +5,8 @@ ghost use Rattle.queue_records.specs.Takes.{IsHandedBy};
 ghost use Rattle.senders.specs.Record.{SenderEnds, EndsFor};
 
 use crate::counted_connector::CountedConnector;
+use crate::diversions::{DivertTo, QueueLevels};
+use crate::divert_connector::DivertConnector;
 use crate::rest_connector::RestConnector;
 use crate::sender_places::{SenderPlaces, Share};
 use crate::spool_connector::SpoolConnector;
@@ -21,7 +23,7 @@ use std::sync::Wait;
 /// What sends to a sender's share of the destinations: to each first what ended runs left for it, then the batches of a supply,
 /// and at the end what is left to its file.
 #[derive(Drop)]
-pub struct LineSender<'x, R: Wait + SpoolDisk + Drop> {
+pub struct LineSender<'x, R: Wait + SpoolDisk + Drop, Q: QueueLevels + Drop> {
     /// What connects to the destinations.
     pub connector: StoreConnector<'x, R>,
     /// The places of its files, and of what ended runs left.
@@ -32,17 +34,26 @@ pub struct LineSender<'x, R: Wait + SpoolDisk + Drop> {
     pub limit: usize,
     /// They say which destinations' last connections are files.
     pub orders: &'x EndOrders,
+    /// What it diverts destinations by, if it does, and how full their queues are.
+    pub divert: Option<DivertTo<'x>>,
+    /// The queues.
+    pub levels: Q,
     /// Where it is counted what the connections take; `None` if what is queued at the end is lost.
     pub end: Option<&'x EndState>,
     ghost few: { (1 ≤ share.dests) × (share.dests ≤ 64) },
     ghost most: { (1 ≤ limit) × (limit ≤ 10000) },
 }
 
-impl<'x, R: Wait + Clock + Net + SpoolDisk + Copy + Drop> LineSender<'x, R> {
+impl<'x, R: Wait + Clock + Net + SpoolDisk + Copy + Drop, Q: QueueLevels + Drop> LineSender<
+    'x,
+    R,
+    Q,
+> {
     /// Sends until the senders' stop flag is set, or a fault, by [`send_batches`].
     ///
     /// A connection goes to the file that is still to be sent, then to the rest, then to the batches. So that which knows of rests
-    /// is outside: it takes what the writers have in hand when another run follows.
+    /// is outside: it takes what the writers have in hand when another run follows. That which diverts is innermost: for the others
+    /// an intake is a connection as any.
     pub fn send<S: Supply + Drop, T: TimeSource>(
         self,
         rt: &R,
@@ -57,15 +68,20 @@ impl<'x, R: Wait + Clock + Net + SpoolDisk + Copy + Drop> LineSender<'x, R> {
             (S.record_of result.outlet) }
     {
         let LineSender {
-            mut connector,
+            connector,
             mut places,
             share,
             limit,
             orders,
+            divert,
+            levels,
             end,
         } = self;
         let dests = share.dests;
-        places.take_lefts(&share, &mut connector, times.millis());
+        let mut connector = DivertConnector::new(
+            connector, *rt, levels, divert, share, signals, orders,
+        );
+        places.take_lefts(rt, &share, &mut connector, times.millis());
         let SenderPlaces { spool, rests } = places;
         let connector = SpoolConnector::new(connector, *rt, spool, &share, signals, orders);
         let connector = RestConnector::new(alloc, connector, rests, share, signals);

@@ -1,5 +1,7 @@
 //! The work of the thread that sends to destinations that are gone.
 
+use crate::diversions::NoLevels;
+use crate::divert_connector::DivertConnector;
 use crate::gone_dests::GoneDests;
 use crate::rest_connector::RestConnector;
 use crate::sender_places::{SenderPlaces, Share};
@@ -51,7 +53,7 @@ impl<'x, R: Wait + Clock + Net + SpoolDisk + Copy + Drop> ThreadWork<R, ()> for 
         let PartingJob {
             gone,
             orders,
-            mut connector,
+            connector,
             mut places,
             limit,
             began,
@@ -63,7 +65,10 @@ impl<'x, R: Wait + Clock + Net + SpoolDisk + Copy + Drop> ThreadWork<R, ()> for 
             senders: 1,
         };
         let times = SystemTimes::since(rt, began);
-        places.take_lefts(&share, &mut connector, times.millis());
+        let mut connector = DivertConnector::new(
+            connector, *rt, NoLevels, None, share, signals, orders,
+        );
+        places.take_lefts(rt, &share, &mut connector, times.millis());
         let SenderPlaces { spool, rests } = places;
         let connector = SpoolConnector::new(
             connector, *rt, spool, &share, signals, orders,

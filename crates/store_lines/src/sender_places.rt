@@ -1,6 +1,9 @@
 //! What a sender has for its destinations beside their connections.
 
 use crate::dest_slots::DestSlots;
+use crate::diversions::QueueLevels;
+use crate::divert_connector::DivertConnector;
+use crate::divert_sink::DivertSink;
 use crate::left_dest::LeftDest;
 use crate::rest_connector::SenderRests;
 use crate::spool_connector::{SenderSpool, SpoolSink};
@@ -10,6 +13,7 @@ use senders::{Lookup, StoreConnector, StoreStream};
 use spool::{SpoolDisk, SpoolNotes};
 use std::alloc::Global;
 use std::net::Net;
+use std::sync::Wait;
 
 /// The destinations of one of several senders, of which one of `n` has each n-th, and the slots that have what is left for them.
 #[derive(Clone, Copy)]
@@ -33,12 +37,12 @@ impl Share<'_> {
 
 /// The places of a sender, by destination: for files, and for what ended runs left.
 #[derive(Drop)]
-pub struct SenderPlaces<'n, D: SpoolDisk + Drop> {
-    pub(crate) spool: SenderSpool<'n, StoreStream<'n>>,
-    pub(crate) rests: SenderRests<'n, SpoolSink<'n, StoreStream<'n>, D>>,
+pub struct SenderPlaces<'n, D: SpoolDisk + Wait + Drop> {
+    pub(crate) spool: SenderSpool<'n, DivertSink<'n, StoreStream<'n>, D>>,
+    pub(crate) rests: SenderRests<'n, SpoolSink<'n, DivertSink<'n, StoreStream<'n>, D>, D>>,
 }
 
-impl<'n, D: SpoolDisk + Drop> SenderPlaces<'n, D> {
+impl<'n, D: SpoolDisk + Wait + Net + Copy + Drop> SenderPlaces<'n, D> {
     /// Places for so many files, which may grow to this limit, and for so many rests, and where it is noted what becomes of
     /// each; 0 if there are none. Refuses if out of memory.
     pub fn new(
@@ -61,26 +65,32 @@ impl<'n, D: SpoolDisk + Drop> SenderPlaces<'n, D> {
 
     /// Takes what is left for each destination of a sender out of its slot, and has it sent: the connector goes on with the
     /// connection, at these milliseconds. It takes no memory.
-    pub(crate) fn take_lefts<R: Net + Drop, L: Lookup + Drop>(
+    pub(crate) fn take_lefts<'s, L: Lookup + Drop, Q: QueueLevels>(
         &mut self,
+        rt: &D,
         share: &Share<'n>,
-        connector: &mut StoreConnector<'n, R, L>,
+        connector: &mut DivertConnector<'n, 's, StoreConnector<'n, D, L>, D, Q>,
         millis: u64,
     ) {
         for place in 0..share.dests {
             if share.has(place) {
-                self.take_left(place, share.slots.take(place), connector, millis);
+                let left = if self.spool.is_none() {
+                    share.slots.take_rests(rt, place)
+                } else {
+                    share.slots.take(place)
+                };
+                self.take_left(place, left, connector, millis);
             }
         }
     }
 
     /// Has what is left for a destination sent: its connection goes on with the earlier file, if that is not sent yet, and
     /// otherwise with the rest. A later rest is behind another one.
-    fn take_left<R: Net + Drop, L: Lookup + Drop>(
+    fn take_left<'s, L: Lookup + Drop, Q: QueueLevels>(
         &mut self,
         place: usize,
         left: LeftDest,
-        connector: &mut StoreConnector<'n, R, L>,
+        connector: &mut DivertConnector<'n, 's, StoreConnector<'n, D, L>, D, Q>,
         millis: u64,
     ) {
         let is_behind_file = left.is_behind_file();
@@ -89,7 +99,9 @@ impl<'n, D: SpoolDisk + Drop> SenderPlaces<'n, D> {
             later,
             files,
             socket,
+            lines,
         } = left;
+        drop(lines);
         let mut sink = match socket {
             Some(socket) => connector.keep(DestId(place), socket, millis),
             None => None,

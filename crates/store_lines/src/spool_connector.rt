@@ -14,13 +14,19 @@ use mio_loops::ReadinessFault;
 use relay_base::{DestId, MOST_DESTINATIONS, NoMemory, add};
 use run_state::{EndOrders, Signals};
 use senders::{Connect, HalfClose, KeptSocket, StoreEnd};
-use spool::{DestSpool, FileConnection, FileSink, SpoolDisk, SpoolNotes, Turn};
+use spool::{DestSpool, FileConnection, FileSink, KeptLines, SpoolDisk, SpoolNotes, Turn};
 use std::alloc::Global;
 use std::io;
 use std::io::Write;
 
 /// How many bytes of a file are sent at once.
 const PIECE: usize = 65_536;
+
+/// How many seconds a store may take to end a connection that took a part of a file: so long the destination's queue waits.
+const LONGEST_END_S: u64 = 5;
+
+/// How many it may take in a run that diverts destinations, where nothing waits for it but the file.
+pub(crate) const KEEPER_END_S: u64 = 60;
 
 /// What a sender has for its destinations' files: none if there is no spool.
 #[derive(Drop)]
@@ -30,6 +36,8 @@ pub(crate) struct SenderSpool<'n, W> {
     piece: Vec<u8>,
     limit: Option<u64>,
     notes: &'n [SpoolNotes],
+    // Whether it is their keeper's, which writes more behind them.
+    is_kept: bool,
 }
 
 /// A destination: its files, until these are its last connection, the connection that its earlier file goes out on, and the one
@@ -65,7 +73,15 @@ impl<'n, W: Drop> SenderSpool<'n, W> {
             piece: vec![in alloc; 0; size]?,
             limit,
             notes,
+            is_kept: false,
         })
+    }
+
+    /// It is the keeper's, which writes more behind the files: it notes itself that all is sent.
+    pub(crate) fn of_keeper(self) -> SenderSpool<'n, W> {
+        let mut spool = self;
+        spool.is_kept = true;
+        spool
     }
 
     /// From now on these are the files of a destination. The connection that the earlier one went out on goes on, if it is
@@ -95,6 +111,13 @@ impl<'n, W: Drop> SenderSpool<'n, W> {
         };
         Some((files, sink))
     }
+}
+
+/// Half-closes a connection that is no longer needed, which is no loss.
+fn half_close<W: HalfClose + Drop>(sink: W) {
+    let mut sink = sink;
+    sink.half_close();
+    drop(sink);
 }
 
 /// The connection that the earlier file of a destination went out on is closed.
@@ -164,6 +187,97 @@ where
         connector
     }
 
+    /// The files of a destination.
+    pub(crate) fn files_mut(&mut self, place: usize) -> Option<&mut DestSpool> {
+        self.spool.files_mut(place)
+    }
+
+    /// Sends some of the earlier files of a destination, if there are, and connects to it for them alone.
+    pub(crate) fn send_files(&mut self, dest: DestId, millis: u64) {
+        if self.spool.awaits_end(&self.disk, dest.0, millis) {
+            return;
+        }
+        if !self.spool.is_behind(dest.0) {
+            self.spool.leave_connection(dest.0);
+            return;
+        }
+        if !self.spool.has_sink(dest.0) {
+            let Some(sink) = self.connector.connect(dest, millis) else {
+                return;
+            };
+            self.spool.keep(dest.0, sink);
+        }
+        if let Some(sink) = self.spool.send(&self.disk, dest.0) {
+            half_close(sink);
+        }
+    }
+
+    /// Whether an earlier file of a destination is not sent yet, or not known to be at its store.
+    pub(crate) fn is_behind(&self, place: usize) -> bool {
+        self.spool.is_behind(place) || self.spool.is_sending(place)
+    }
+
+    /// Whether files of a destination hold lines that are to be sent.
+    pub(crate) fn has_files(&self, dest: DestId) -> bool {
+        self.spool.is_behind(dest.0)
+    }
+
+    /// Sends some of the lines that no file takes, of a destination of which no file is left, and connects to it for them alone.
+    /// Returns whether a connection has some of them, and its store has not ended it.
+    pub(crate) fn send_kept(&mut self, dest: DestId, millis: u64, lines: &mut KeptLines) -> bool {
+        let Some(state) = self.spool.dests.get_mut(dest.0) else {
+            return false;
+        };
+        match state.kept_end(millis) {
+            Some(PartEnd::Open) => return true,
+            Some(PartEnd::Taken) | Some(PartEnd::NoEnd) => {
+                lines.pass_all();
+                return false;
+            }
+            Some(PartEnd::Lost) => {
+                lines.send_again();
+                return false;
+            }
+            None => {}
+        }
+        if !state.connection.is_open() {
+            let Some(sink) = self.connector.connect(dest, millis) else {
+                return false;
+            };
+            lines.send_again();
+            state.connection.keep(sink);
+        }
+        match lines.send(&mut state.connection, &mut self.spool.piece) {
+            Turn::Over(sink) => {
+                state.end = Some(FileEnd::begin(sink));
+                true
+            }
+            Turn::Kept => true,
+            Turn::GivenUp { sink, .. } => {
+                half_close(sink);
+                false
+            }
+            Turn::Broken { .. } | Turn::Lost => {
+                drop(state.connection.take());
+                false
+            }
+        }
+    }
+
+    /// Gives up the connection that has lines which no file takes.
+    pub(crate) fn leave_kept(&mut self, dest: DestId) {
+        if let Some(state) = self.spool.dests.get_mut(dest.0) {
+            drop(state.end.take());
+        }
+        self.spool.leave_connection(dest.0);
+    }
+
+    /// Whether the store of a destination takes more of the earlier file at once, or is about to end the connection that took a
+    /// part.
+    pub(crate) fn takes_more(&self, place: usize) -> bool {
+        self.spool.takes_more(place)
+    }
+
     /// Whether the last connection of a destination is its new file.
     fn is_spooling(&self, dest: DestId) -> bool {
         let is_told = self.signals.is_spooling() || self.orders.is_spooled(dest);
@@ -221,10 +335,43 @@ where
     }
 }
 
-impl<'n, W: Write + HalfClose + Drop> SenderSpool<'n, W> {
+impl<'n, W> SenderSpool<'n, W> {
     /// Whether there is no spool.
-    fn is_none(&self) -> bool {
+    pub(crate) fn is_none(&self) -> bool {
         self.dests.is_empty()
+    }
+}
+
+impl<'n, W: Write + HalfClose + Drop> SenderSpool<'n, W> {
+    /// The connection of the earlier file of a destination is not needed, if there is one: nothing is left of that.
+    fn leave_connection(&mut self, place: usize) {
+        let Some(state) = self.dests.get_mut(place) else {
+            return;
+        };
+        if let Some(sink) = state.connection.take() {
+            half_close(sink);
+        }
+    }
+
+    /// The files of a destination.
+    fn files_mut(&mut self, place: usize) -> Option<&mut DestSpool> {
+        self.dests.get_mut(place)?.spool.as_mut()
+    }
+
+    /// Whether a connection takes more of the earlier file of a destination at once, or has taken a part.
+    fn takes_more(&self, place: usize) -> bool {
+        match self.dests.get(place) {
+            Some(state) => state.connection.goes_on() || state.end.is_some(),
+            None => false,
+        }
+    }
+
+    /// Whether a connection takes the earlier file of a destination, or has taken a part, which its store has not ended yet.
+    fn is_sending(&self, place: usize) -> bool {
+        match self.dests.get(place) {
+            Some(state) => state.connection.is_open() || state.end.is_some(),
+            None => false,
+        }
     }
 
     /// Whether a file goes on at once.
@@ -260,8 +407,13 @@ impl<'n, W: Write + HalfClose + Drop> SenderSpool<'n, W> {
             return false;
         };
         let notes = self.notes.get(place);
-        let was_behind = state.is_behind();
-        let awaits = state.awaits_end(disk, millis, notes);
+        let was_behind = state.is_behind() && !self.is_kept;
+        let seconds = if self.is_kept {
+            KEEPER_END_S
+        } else {
+            LONGEST_END_S
+        };
+        let awaits = state.awaits_end(disk, millis, seconds, notes);
         if let (Some(notes), true, false) = (notes, was_behind, state.is_behind()) {
             notes.note_sent(true);
         }
@@ -304,7 +456,7 @@ impl<'n, W: Write + HalfClose + Drop> SenderSpool<'n, W> {
         let state = self.dests.get_mut(place)?;
         let notes = self.notes.get(place);
         let given = state.send(disk, &mut self.piece, notes);
-        if let (Some(notes), false) = (notes, state.is_behind()) {
+        if let (Some(notes), false) = (notes, state.is_behind() || self.is_kept) {
             notes.note_sent(matches!(given, Some((_, true))));
         }
         match given {
@@ -326,6 +478,18 @@ impl<'n, W: Write + HalfClose + Drop> SenderSpool<'n, W> {
 }
 
 impl<W: Write + HalfClose + Drop> SpooledDest<W> {
+    /// What is known at these milliseconds of lines that no file takes, and a connection took, if one did.
+    fn kept_end(&mut self, millis: u64) -> Option<PartEnd> {
+        let mut end = self.end.take()?;
+        let part_end = end.look(millis, KEEPER_END_S.saturating_mul(1_000));
+        if let PartEnd::Open = part_end {
+            self.end = Some(end);
+        } else {
+            drop(end);
+        }
+        Some(part_end)
+    }
+
     /// Whether the earlier file is not sent yet.
     fn is_behind(&self) -> bool {
         match &self.spool {
@@ -357,18 +521,19 @@ impl<W: Write + HalfClose + Drop> SpooledDest<W> {
         }
     }
 
-    /// Whether a connection that took a part of the earlier file is not ended by its store yet, at these milliseconds. Once it
-    /// is, the file goes on, or goes.
+    /// Whether a connection that took a part of the earlier file is not ended by its store yet, which may take so many seconds, at
+    /// these milliseconds. Once it is, the file goes on, or goes.
     fn awaits_end<D: SpoolDisk>(
         &mut self,
         disk: &D,
         millis: u64,
+        seconds: u64,
         notes: Option<&SpoolNotes>,
     ) -> bool {
         let Some(mut end) = self.end.take() else {
             return false;
         };
-        let part_end = end.look(millis);
+        let part_end = end.look(millis, seconds.saturating_mul(1_000));
         if let PartEnd::Open = part_end {
             self.end = Some(end);
             return true;
@@ -377,7 +542,7 @@ impl<W: Write + HalfClose + Drop> SpooledDest<W> {
         if let Some(spool) = &mut self.spool {
             match part_end {
                 PartEnd::Taken => spool.end_part(disk, notes),
-                PartEnd::NoEnd => spool.note_no_end(disk, notes),
+                PartEnd::NoEnd => spool.note_no_end(disk, seconds, notes),
                 PartEnd::Lost | PartEnd::Open => spool.send_again(notes),
             }
         }

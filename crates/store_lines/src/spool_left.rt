@@ -28,8 +28,9 @@ pub(crate) fn spool_left<D: SpoolDisk + Drop>(
         later,
         files,
         socket,
+        lines,
     } = left;
-    drop(socket);
+    drop((socket, lines));
     match files {
         Some(files) => spool_rests(disk, alloc, rest, later, files, limit),
         None => {

@@ -15,7 +15,7 @@ const SECONDS: u64 = 1_795_901_707;
 
 const TIME: &str = "2026-11-28T21:35:07Z";
 
-static FORMS: [Form; 24] = [
+static FORMS: [Form; 27] = [
     Form {
         line: "destination h:1:a connected\n",
         timed: " info destination h:1:a connected\n",
@@ -85,6 +85,21 @@ static FORMS: [Form; 24] = [
         line: "destination h:1 spool sent\n",
         timed: " info destination h:1 spool sent\n",
         json: r#""level":"info","destination":"h:1","what":"spool sent"}"#,
+    },
+    Form {
+        line: "destination h:1 spool begins\n",
+        timed: " warning destination h:1 spool begins\n",
+        json: r#""level":"warning","destination":"h:1","what":"spool begins"}"#,
+    },
+    Form {
+        line: "destination h:1 spool full\n",
+        timed: " warning destination h:1 spool full\n",
+        json: r#""level":"warning","destination":"h:1","what":"spool full"}"#,
+    },
+    Form {
+        line: "destination h:1 spool goes on\n",
+        timed: " info destination h:1 spool goes on\n",
+        json: r#""level":"info","destination":"h:1","what":"spool goes on"}"#,
     },
     Form {
         line: "destination h:1 spool: no room\n",

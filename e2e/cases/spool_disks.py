@@ -1,0 +1,181 @@
+"""`relayd run --spool DIR --spool-size BYTES` on disks that fail: the destination that is diverted drops, counted, and no other notices."""
+
+import contextlib
+import ctypes
+import errno
+import os
+import signal
+import statistics
+import subprocess
+import sys
+import threading
+import time
+
+from cases.spool_diversion import MANY, STEP, Diversion
+from fixtures.harness import LIMIT
+from fixtures.log import Log
+from fixtures.program import TOP
+from fixtures.spooling import numbered, text_of
+
+LIBC = ctypes.CDLL(None, use_errno=True)
+REMOUNT, DETACH = 32, 2  # flags of mount and umount
+FUSE = os.path.join(TOP, "e2e", "fixtures", "fuse_disk.py")
+MARKS = 60  # lines whose way is timed
+BAR = 0.05  # seconds that the median of these ways may last longer
+TRIES = 3
+
+
+class Disks(Diversion):
+    """Each has a disk of its own."""
+
+    def mounts(self, *given):
+        """Mounts something on the folder; at the end it is gone."""
+        if os.geteuid() != 0 or LIBC.mount(*given) != 0:
+            self.skipTest("no file system of its own can be mounted here")
+        self.addCleanup(LIBC.umount2, os.fsencode(self.dir), DETACH)
+
+    def fuse(self):
+        """A disk that a process serves: that process, and the file by which it fails."""
+        fails = self.dir + ".fails"
+        child = subprocess.Popen([sys.executable, FUSE, self.dir, fails], stdout=subprocess.PIPE, stderr=subprocess.DEVNULL)
+        self.addCleanup(child.stdout.close)
+        self.addCleanup(child.wait)
+        self.addCleanup(child.kill)
+        if child.stdout.readline() != b"ready\n":
+            self.skipTest("no file system of its own can be mounted here")
+        self.addCleanup(LIBC.umount2, os.fsencode(self.dir), DETACH)
+        self.addCleanup(child.send_signal, signal.SIGCONT)
+        self.addCleanup(lambda: os.path.exists(fails) and os.remove(fails))
+        return child, fails
+
+    def pours(self, relay, lines, place):
+        """Sends lines, as fast as another destination keeps them."""
+        for first in range(0, len(lines), STEP):
+            before = relay.report()[place][1]["kept"]
+            relay.lines(text_of(lines[first:first + STEP]))
+            count = before + len(lines[first:first + STEP])
+            self.wait_for(lambda count=count: relay.report()[place][1]["kept"] >= count, "the other has them queued")
+
+    def goes_on(self, broken, mended):
+        """Drops while the disk is broken, and keeps what comes once it is mended; returns what the log said."""
+        port, dest = self.away()
+        beside, = self.stores(1)
+        lines = numbered(MANY)
+        with self.diverting([dest, f"127.0.0.1:{beside.port}"], "--log", size="1073741824") as relay:
+            log = Log(relay.child.stderr)
+            self.send_many(relay, lines[:10_000])
+            broken()
+            self.pours(relay, lines[10_000:80_000], place=1)
+            self.has_all(beside, lines[:80_000])
+            self.wait_for(lambda: self.dropped(relay) > 0, "what has no room is dropped")
+            self.wait_for(lambda: any(line in log.of(dest) for line in (b"spool full", b"spool: cannot write")), "the log says so")
+            mended()
+            self.wait_for(lambda: b"spool goes on" in log.of(dest), "the files take more")
+            kept = relay.report()[0][1]["kept"]
+            self.pours(relay, lines[80_000:], place=1)
+            self.wait_for(lambda: relay.report()[0][1]["kept"] == kept + 20_000, "nothing more is dropped")
+            store = self.store_at(port)
+            self.wait_for(lambda: store.lines()[-1:] == lines[-1:], "the last one has come")
+            self.are_sent()
+            came = set(store.lines())
+            self.assertEqual(store.lines(), [line for line in lines if line in came], "in order, once")
+            self.assertEqual(store.lines()[:10_000], lines[:10_000])
+            self.assertEqual(len(came), kept + 20_000)
+            self.over(relay)
+            log.thread.join(LIMIT)
+        return log.of(dest)
+
+    def test_a_full_disk(self):
+        """What has no room is dropped; once there is room all is kept."""
+        self.mounts(b"none", os.fsencode(self.dir), b"tmpfs", 0, b"size=1m")
+        filler = self.path("filler")
+
+        def fill():
+            with contextlib.suppress(OSError), open(filler, "wb") as file:
+                file.write(bytes(1_048_576))
+
+        def resize():
+            self.assertEqual(LIBC.mount(b"none", os.fsencode(self.dir), b"tmpfs", REMOUNT, b"size=64m"), 0)
+            os.remove(filler)
+
+        self.assertIn(b"spool full", self.goes_on(fill, resize))
+
+    def fails_by(self, number):
+        """A disk that fails by this error; returns what the log said."""
+        _, fails = self.fuse()
+
+        def fail():
+            with open(fails, "w", encoding="ascii") as file:
+                file.write(str(number))
+
+        return self.goes_on(fail, lambda: os.remove(fails))
+
+    def test_a_disk_that_is_read_only(self):
+        """The same."""
+        self.assertIn(b"spool: cannot write", self.fails_by(errno.EROFS))
+
+    def test_a_disk_that_fails(self):
+        """The same."""
+        self.assertIn(b"spool: cannot write", self.fails_by(errno.EIO))
+
+    def test_a_disk_that_fails_for_good(self):
+        """A store that is there again gets what memory holds, and then what comes."""
+        _, fails = self.fuse()
+        port, dest = self.away()
+        lines = numbered(60_000)
+        with self.diverting([dest]) as relay:
+            with open(fails, "w", encoding="ascii") as file:
+                file.write(str(errno.EIO))
+            for first in range(0, 40_000, STEP):
+                relay.lines(text_of(lines[first:first + STEP]))
+                self.wait_for(lambda count=first + STEP: relay.report()[0][1]["offered"] == count, "all were offered")
+            dropped = self.dropped(relay)
+            self.assertGreater(dropped, 0)
+            store = self.store_at(port)
+            self.wait_for(lambda: relay.report()[0][1]["queued"] == 0, "the store takes what is there")
+            self.send_many(relay, lines[40_000:])
+            self.wait_for(lambda: store.lines()[-1:] == lines[-1:], "the last one has come")
+            self.assertEqual(self.dropped(relay), dropped)
+            came = set(store.lines())
+            self.assertEqual(store.lines(), [line for line in lines if line in came], "in order, once")
+            self.assertEqual(len(came), len(lines) - dropped)
+            self.over(relay)
+
+    def test_a_disk_that_hangs(self):
+        """The median way of a line to another store stays; once the disk goes on, so do the files."""
+        child, _ = self.fuse()
+        port, dest = self.away()
+        beside, = self.stores(1)
+        lines = numbered(MANY)
+        with self.diverting([dest, f"127.0.0.1:{beside.port}"], size="1073741824") as relay:
+            before = self.median_way(relay, beside, b"before", lines[:30_000])
+            self.wait_for(lambda: self.files() != [], "files are written")
+            child.send_signal(signal.SIGSTOP)
+            self.pours(relay, lines[30_000:70_000], 1)
+            self.wait_for(lambda: self.dropped(relay) > 0, "what has no room is dropped")
+            for attempt in range(TRIES):
+                meanwhile = self.median_way(relay, beside, b"meanwhile%d." % attempt, lines[70_000:])
+                if meanwhile - before < BAR:
+                    break
+            child.send_signal(signal.SIGCONT)
+            self.assertLess(meanwhile - before, BAR)
+            store = self.store_at(port)
+            self.wait_for(lambda: store.size() > 500_000, "the files go on")
+            relay.lines(b"last 1 1\n")
+            self.wait_for(lambda: b"last 1 1" in store.text(), "the last line has come")
+            self.are_sent()
+            self.over(relay)
+
+    def median_way(self, relay, store, prefix, lines):
+        """The median of the seconds in which lines came to a store while others are sent."""
+        ways = []
+        pouring = threading.Thread(target=self.pours, args=(relay, lines, 1))
+        pouring.start()
+        for number in range(MARKS):
+            mark = b"%s%d 1 1\n" % (prefix, number)
+            began = time.monotonic()
+            relay.lines(mark)
+            self.wait_for(lambda mark=mark: mark in bytes(store.taken[-1][-200_000:]), "the line has come")
+            ways.append(time.monotonic() - began)
+        pouring.join()
+        return statistics.median(ways)
