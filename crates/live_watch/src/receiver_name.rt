@@ -25,8 +25,8 @@ impl ReceiverName {
         }
     }
 
-    /// Its text.
-    pub(crate) fn text(self) -> &'static str {
+    /// Its text, which is also the name of its thread.
+    pub fn text(self) -> &'static str {
         match self {
             ReceiverName::Line => "line",
             ReceiverName::LineOf(number) => line_name(number),

@@ -6,6 +6,7 @@ ghost use Rattle.relay_ports.specs.StartFault.{is_start_fault};
 use crate::listeners::BoundPort;
 use crate::system_tables::SystemTables;
 use log_lines::{InputUnit, ReceiverNotes};
+use live_watch::ReceiverName;
 use mio::net::UdpSocket;
 use mio_loops::ReadinessFault;
 use reader_core::ReaderKind;
@@ -16,11 +17,12 @@ use std::alloc::Global;
 use std::net::Net;
 use std::sync::Arc;
 
-/// The source of a receiver's datapoints.
+/// The source of a receiver's datapoints. It borrows nothing of a run, so what the next one receives with is made before this one
+/// ends.
 #[derive(Drop)]
 pub enum Inlet {
     /// Connections of lines, and the name of their receiver.
-    Lines(StreamListener, &'static str),
+    Lines(StreamListener, ReceiverName),
     /// Connections of pickles.
     Pickles(StreamListener),
     /// Datagrams of lines.
@@ -29,7 +31,7 @@ pub enum Inlet {
 
 impl Inlet {
     /// Watches a bound port. If the system refuses, that is the port's fault.
-    pub fn new<R: Net + SystemTables>(
+    pub(crate) fn new<R: Net + SystemTables>(
         rt: &R,
         alloc: Global,
         bound: BoundPort,
@@ -60,22 +62,18 @@ impl Inlet {
         }
     }
 
-    /// The name of the thread that receives here.
-    pub fn name(&self) -> &'static str {
+    /// The name of what receives here.
+    pub fn name(&self) -> ReceiverName {
         match self {
             Inlet::Lines(_, name) => *name,
-            Inlet::Pickles(_) => "pickle",
-            Inlet::Datagrams(_) => "udp",
+            Inlet::Pickles(_) => ReceiverName::Pickle,
+            Inlet::Datagrams(_) => ReceiverName::Datagram,
         }
     }
 
     /// The kind of the readers of what arrives here.
     pub fn kind(&self) -> ReaderKind {
-        match self {
-            Inlet::Lines(..) => ReaderKind::Line,
-            Inlet::Pickles(_) => ReaderKind::Pickle,
-            Inlet::Datagrams(_) => ReaderKind::Datagram,
-        }
+        self.name().kind()
     }
 
     /// From now on a connection that has sent no datapoint for this number of seconds is closed; with 0 none is.

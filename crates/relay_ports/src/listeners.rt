@@ -5,10 +5,13 @@ ghost use Rattle.relay_ports.specs.StartFault.{is_start_fault};
 
 use crate::datagram_room::ask_for_room;
 use crate::descriptors::{room_of, share_room};
+use crate::inlet::Inlet;
 use crate::options::{RunOptions, StatusOptions};
 use crate::said_refusals::SaidRefusals;
+use crate::system_tables::SystemTables;
 use admin_port::AdminListener;
 use conf_text::Settings;
+use live_watch::ReceiverName;
 use mio::net::{TcpListener, UdpSocket};
 use mio_loops::ReadinessFault;
 use receivers::StreamPort;
@@ -23,7 +26,7 @@ use std::{io, net};
 #[derive(Drop)]
 pub enum BoundPort {
     /// Connections of lines, and the name of their receiver.
-    Lines(StreamPort, &'static str),
+    Lines(StreamPort, ReceiverName),
     /// Connections of pickles.
     Pickles(StreamPort),
     /// Datagrams of lines.
@@ -50,16 +53,12 @@ impl BoundPort {
     }
 }
 
-/// The names of receivers that share the port of lines.
-const LINE_NAMES: [&str; MOST_LINE_RECEIVERS] = [
-    "line 0", "line 1", "line 2", "line 3", "line 4", "line 5",
-];
-
-/// What was bound: the ports of receivers, those that the first thread keeps, and what serves the status, if there is to be that.
+/// What was bound: what receives at the ports of receivers, those that the first thread keeps, and what serves the status, if
+/// there is to be that.
 #[derive(Drop)]
 pub struct Ports<S> {
-    /// The ports of receivers.
-    pub receivers: Vec<BoundPort>,
+    /// What receives, at each port of a receiver.
+    pub receivers: Vec<Inlet>,
     /// Those that the first thread keeps.
     pub first: FirstPorts,
     /// What serves the status.
@@ -79,11 +78,17 @@ pub struct FirstPorts {
 }
 
 impl FirstPorts {
-    /// The ports of the receivers of one more run. Refuses (`Listen`) if the system does, and `NoMemory` if out of memory.
-    pub fn for_receivers(&self, alloc: Global) -> Result<Vec<BoundPort>, RelayFault>
+    /// What receives in one more run, which borrows nothing of that. Refuses (`Listen`) what the system refuses, and `NoMemory` if
+    /// out of memory.
+    pub fn for_receivers<R: Net + SystemTables>(
+        &self,
+        rt: &R,
+        alloc: Global,
+    ) -> Result<Vec<Inlet>, RelayFault>
         ensures { IfErr result (λ fault. is_start_fault fault ≡ true) }
     {
-        clones_of(alloc, self.kept.as_slice())
+        let bound = clones_of(alloc, self.kept.as_slice())?;
+        inlets_of(rt, alloc, bound)
     }
 
     /// So many stores had a descriptor, and from now on so many have: producers get the others, if their number is limited.
@@ -119,10 +124,25 @@ fn clones_of(alloc: Global, ports: &[BoundPort]) -> Result<Vec<BoundPort>, Relay
     Ok(clones)
 }
 
-/// Binds the ports of receivers, the admin port and the port of the status server, in this order. Refuses (`Listen`) the
-/// first that cannot be bound, and too few descriptors; what was bound is closed again. The receivers leave descriptors for
-/// the stores.
-pub fn bind_all<R: Net>(
+/// What receives at each of these ports.
+fn inlets_of<R: Net + SystemTables>(
+    rt: &R,
+    alloc: Global,
+    bound: Vec<BoundPort>,
+) -> Result<Vec<Inlet>, RelayFault>
+    ensures { IfErr result (λ fault. is_start_fault fault ≡ true) }
+{
+    let mut inlets = Vec::new(alloc);
+    for port in bound {
+        add(&mut inlets, Inlet::new(rt, alloc, port)?)?;
+    }
+    Ok(inlets)
+}
+
+/// Binds the ports of receivers, the admin port and the port of the status server, in this order, and watches them. Refuses
+/// (`Listen`) the first that cannot be bound or watched, and too few descriptors; what was bound is closed again. The receivers
+/// leave descriptors for the stores.
+pub fn bind_all<R: Net + SystemTables>(
     rt: &R,
     alloc: Global,
     settings: &Settings,
@@ -130,10 +150,10 @@ pub fn bind_all<R: Net>(
 ) -> Result<Ports<StatusListener>, RelayFault>
     ensures { IfErr result (λ fault. is_start_fault fault ≡ true) }
 {
-    let receivers = bind_receivers(rt, alloc, settings, options.line_receivers())?;
+    let bound = bind_receivers(rt, alloc, settings, options.line_receivers())?;
     let admin = watch_admin(rt, alloc, options.admin())?;
     let mut ports = Ports {
-        receivers,
+        receivers: Vec::new(alloc),
         first: FirstPorts {
             admin,
             said: SaidRefusals::none(),
@@ -141,7 +161,7 @@ pub fn bind_all<R: Net>(
         },
         status: None,
     };
-    match bind_last(rt, alloc, settings, options, &mut ports) {
+    match bind_last(rt, alloc, settings, options, bound, &mut ports) {
         Ok(()) => Ok(ports),
         Err(fault) => {
             drop(ports);
@@ -150,23 +170,26 @@ pub fn bind_all<R: Net>(
     }
 }
 
-/// Binds the port of the status, the last, keeps the ports of the receivers open, and limits the receivers of all.
-fn bind_last<R: Net>(
+/// Binds the port of the status, the last, keeps these ports of receivers open, limits the receivers of all, and watches them.
+fn bind_last<R: Net + SystemTables>(
     rt: &R,
     alloc: Global,
     settings: &Settings,
     options: RunOptions,
+    bound: Vec<BoundPort>,
     ports: &mut Ports<StatusListener>,
 ) -> Result<(), RelayFault>
     ensures { IfErr result (λ fault. is_start_fault fault ≡ true) }
 {
     ports.status = bind_status(rt, alloc, options.status())?;
-    ports.first.kept = clones_of(alloc, ports.receivers.as_slice())?;
-    let Some(room) = room_of(rt, alloc, settings, options)? else {
-        return Ok(());
-    };
-    share_room(&room, ports.receivers.as_mut_slice())?;
-    Ok(share_room(&room, ports.first.kept.as_mut_slice())?)
+    ports.first.kept = clones_of(alloc, bound.as_slice())?;
+    let mut bound = bound;
+    if let Some(room) = room_of(rt, alloc, settings, options)? {
+        share_room(&room, bound.as_mut_slice())?;
+        share_room(&room, ports.first.kept.as_mut_slice())?;
+    }
+    ports.receivers = inlets_of(rt, alloc, bound)?;
+    Ok(())
 }
 
 /// Binds the ports of the settings that are enabled, in the order lines, pickles, datagrams: a port of 0 is not
@@ -240,15 +263,15 @@ fn add_lines(
 {
     let port = StreamPort::new(listener);
     if receivers <= 1 {
-        return Ok(add(bound, BoundPort::Lines(port, "line"))?);
+        return Ok(add(bound, BoundPort::Lines(port, ReceiverName::Line))?);
     }
-    for name in &LINE_NAMES[..receivers.min(MOST_LINE_RECEIVERS)] {
+    for number in 0..receivers.min(MOST_LINE_RECEIVERS) {
         let Ok(clone) = port.try_clone() else {
             return Err(RelayFault::Listen {
                 role: ListenRole::Line,
             });
         };
-        add(bound, BoundPort::Lines(clone, *name))?;
+        add(bound, BoundPort::Lines(clone, ReceiverName::LineOf(number)))?;
     }
     Ok(())
 }

@@ -61,10 +61,10 @@ impl PortReceiver<'_> {
         } = self;
         let times = SystemTimes::since(rt, began);
         let tap = Tap::new(watch);
-        let (name, share) = known_of(&inlet, share);
+        let name = inlet.name();
         let notes = PortNotes {
             name,
-            share,
+            share: share_of(name, share),
             begin: BeginNote::new(signals),
             tap: &tap,
         };
@@ -94,13 +94,11 @@ impl PortReceiver<'_> {
     }
 }
 
-/// The name of the receiver of an inlet, and how it shares its port: of receivers of lines in this way.
-fn known_of<'s>(inlet: &Inlet, share: Share<'s>) -> (ReceiverName, Share<'s>) {
-    match inlet {
-        Inlet::Lines(..) if share.held.len() > 1 => (ReceiverName::LineOf(share.own), share),
-        Inlet::Lines(..) => (ReceiverName::Line, share),
-        Inlet::Pickles(_) => (ReceiverName::Pickle, Share::none()),
-        Inlet::Datagrams(_) => (ReceiverName::Datagram, Share::none()),
+/// How a receiver shares its port: one of lines in this way, and the others with none.
+fn share_of<'s>(name: ReceiverName, of_lines: Share<'s>) -> Share<'s> {
+    match name {
+        ReceiverName::Line | ReceiverName::LineOf(_) => of_lines,
+        ReceiverName::Pickle | ReceiverName::Datagram => Share::none(),
     }
 }
 

@@ -6,7 +6,7 @@ ghost use Rattle.std.specs.Option.{is_none};
 use crate::end_waits::{DrainWait, EndWait, FilesWait, PartingWait};
 use crate::ended_run::EndedRecord;
 use crate::first_work::FirstWork;
-use crate::prepared_run::{PreparedRun, prepared_by};
+use crate::prepared_run::{PreparedRun, ReloadFrom, prepared_by};
 use crate::relay::Relay;
 use crate::reload_source::{READING_TIMEOUT_MS, RefusedReload, ReloadSource};
 use crate::spool_folder::SpoolFolder;
@@ -21,7 +21,7 @@ use receivers::{ClosingWait, ReceiverControl};
 use relay_base::{DestId, NoMemory, add, put};
 use relay_commands::LiveRoutes;
 use relay_files::RunConfiguration;
-use relay_ports::FirstPorts;
+use relay_ports::{FirstPorts, SystemTables};
 use relay_watchers::{LogEnd, StatusServer};
 use run_state::{DestSources, EndState};
 use spool::{SpoolDisk, Waiting, clock_seconds};
@@ -211,7 +211,11 @@ struct Reading {
 }
 
 /// Answers commands until one is `stop`, or until another run is ready to follow, which is returned.
-fn answer_until_ended<B: Set, R: Wait + Clock + Net + SpoolDisk + Threads, F: ReloadSource>(
+fn answer_until_ended<
+    B: Set,
+    R: Wait + Clock + Net + SpoolDisk + SystemTables + Threads,
+    F: ReloadSource,
+>(
     rt: &R,
     alloc: Global,
     relay: &Relay<B>,
@@ -226,7 +230,11 @@ fn answer_until_ended<B: Set, R: Wait + Clock + Net + SpoolDisk + Threads, F: Re
 }
 
 /// Answers commands by these answers until one is `stop`, or until another run is ready to follow, which is returned.
-fn answer_with<B: Set, R: Wait + Clock + Net + SpoolDisk + Threads, F: ReloadSource>(
+fn answer_with<
+    B: Set,
+    R: Wait + Clock + Net + SpoolDisk + SystemTables + Threads,
+    F: ReloadSource,
+>(
     rt: &R,
     alloc: Global,
     relay: &Relay<B>,
@@ -256,7 +264,13 @@ fn answer_with<B: Set, R: Wait + Clock + Net + SpoolDisk + Threads, F: ReloadSou
             continue;
         };
         reading = None;
-        let next = next_run(rt, alloc, relay, ports, folder, begun.connection, read);
+        let from = ReloadFrom {
+            relay,
+            ports,
+            folder,
+            connection: begun.connection,
+        };
+        let next = next_run(rt, alloc, from, read);
         match next {
             Ok(prepared) => {
                 keep_answer(alloc, &mut ports.admin, &prepared);
@@ -340,25 +354,14 @@ fn read_for<F: ReloadSource>(
 }
 
 /// Makes ready the run of the configuration that was read, or says why not.
-fn next_run<B: Set, R: SpoolDisk + Net + Threads>(
+fn next_run<B: Set, R: SpoolDisk + Net + SystemTables + Threads>(
     rt: &R,
     alloc: Global,
-    relay: &Relay<B>,
-    ports: &FirstPorts,
-    folder: Option<SpoolFolder<'_>>,
-    connection: u64,
+    from: ReloadFrom<'_, B>,
     read: Result<RunConfiguration, RefusedReload>,
 ) -> Result<PreparedRun<B>, RefusedReload> {
     match read {
-        Ok(configuration) => prepared_by(
-            rt,
-            alloc,
-            relay,
-            ports,
-            folder,
-            configuration,
-            connection,
-        ),
+        Ok(configuration) => prepared_by(rt, alloc, from, configuration),
         Err(refused) => Err(refused),
     }
 }
@@ -391,7 +394,7 @@ fn refuse(
 
 impl<
     B: Set,
-    R: Wait + Clock + Net + SpoolDisk + Threads,
+    R: Wait + Clock + Net + SpoolDisk + SystemTables + Threads,
     L: Drop,
     F: ReloadSource,
     K: Recorder,
@@ -423,7 +426,7 @@ impl<
     }
 
     fn is_handing(&self, has_failed: bool) -> bool {
-        self.state.next.is_some() || has_failed && !self.relay.is_first
+        self.state.next.is_some() || has_failed && !self.relay.is_first()
     }
 
     fn end_parting(&mut self, rt: &R, alloc: Global) {

@@ -94,7 +94,6 @@ pub(crate) fn ended_of<B: Set>(
     alloc: Global,
     relay: Relay<B>,
     room: EndRoom<B>,
-    number: u64,
     records: Records,
 ) -> EndedRun {
     let Relay {
@@ -105,6 +104,7 @@ pub(crate) fn ended_of<B: Set>(
         slots,
         gone,
         streams,
+        number,
         ..
     } = relay;
     let mut notes = state.into_notes();

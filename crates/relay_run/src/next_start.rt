@@ -5,7 +5,7 @@ use crate::inherited::Inherited;
 use crate::prepared_run::{KeptPlaces, NextPlan};
 use crate::relay::Relay;
 use crate::shape::shape_of;
-use crate::start::{Process, Start};
+use crate::start::{Begun, Process, Start};
 use conf_text::Dest;
 use dest_queue::EarlierCounts;
 use locked_queues::Set;
@@ -74,14 +74,20 @@ fn say_drops(line: &mut String, ended: &EndedRun) -> Result<(), NoMemory> {
     Ok(())
 }
 
+/// What the first thread keeps from one run to the next: its ports, the status server, and what the log has reported of receivers.
+#[derive(Drop)]
+pub(crate) struct KeptByFirst {
+    pub(crate) ports: FirstPorts,
+    pub(crate) server: Option<StatusServer>,
+    pub(crate) logged: Vec<ReceiverLog>,
+}
+
 /// What a run begins with that follows this one, at these milliseconds. It can do without the memory that it takes.
 pub(crate) fn start_after(
     alloc: Global,
     ended: &mut EndedRun,
     prepared: NextPlan,
-    first: FirstPorts,
-    server: Option<StatusServer>,
-    logged: Vec<ReceiverLog>,
+    kept: KeptByFirst,
     process: &Process<'_>,
     millis: u64,
 ) -> Start {
@@ -95,7 +101,11 @@ pub(crate) fn start_after(
         files,
         ..
     } = prepared;
-    let mut server = server;
+    let KeptByFirst {
+        ports: first,
+        mut server,
+        logged,
+    } = kept;
     if let Some(server) = &mut server {
         server.keep_dests(alloc, places.kept.as_slice());
     }
@@ -115,7 +125,7 @@ pub(crate) fn start_after(
     let stores = places.kept.len().saturating_add(inherited.gone.dests.len());
     first.keep_for_stores(stores_before, stores);
     let shape = shape_of(configuration.settings(), receivers.len(), process);
-    Start {
+    let begun = Begun {
         configuration,
         shape,
         ports: Ports {
@@ -123,10 +133,10 @@ pub(crate) fn start_after(
             first,
             status: server,
         },
-        blank,
         shared,
         inherited,
-    }
+    };
+    Start { begun, blank }
 }
 
 /// The destinations of a run that the next one does not have, and those that were gone before and are not back, by place: until

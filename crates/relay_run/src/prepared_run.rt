@@ -21,7 +21,7 @@ use locked_queues::{BlankTotals, EndRoom, MOST_RECEIVERS, Set};
 use queue_records::READERS_EACH;
 use relay_base::{DestId, MOST_DESTINATIONS, NoMemory, add};
 use relay_files::{RelayFault, RunConfiguration};
-use relay_ports::{BoundPort, FirstPorts};
+use relay_ports::{FirstPorts, Inlet, SystemTables};
 use spool::{OpenFault, SpoolDisk, SpoolFiles};
 use std::alloc::Global;
 use std::net::Net;
@@ -34,14 +34,14 @@ pub(crate) struct PreparedRun<B: Set> {
     pub(crate) room: EndRoom<B>,
 }
 
-/// A run that is to follow the one that runs: its configuration, which was read and checked; its ports; the totals of its
+/// A run that is to follow the one that runs: its configuration, which was read and checked; what it receives with; the totals of its
 /// queues; what its threads share; where each of its destinations is among those of the run, and among those that are gone;
 /// their new places; the files of the others, and the first lines of the log; the line of the answer; and the connection that
 /// waits for that.
 #[derive(Drop)]
 pub(crate) struct NextPlan {
     pub(crate) configuration: RunConfiguration,
-    pub(crate) receivers: Vec<BoundPort>,
+    pub(crate) receivers: Vec<Inlet>,
     pub(crate) blank: BlankTotals,
     pub(crate) shared: SharedParts,
     pub(crate) places: KeptPlaces,
@@ -51,17 +51,30 @@ pub(crate) struct NextPlan {
     pub(crate) connection: u64,
 }
 
+/// What a reload begins with: the relay that runs, the ports that the first thread keeps, the folder for what is not sent, if there
+/// is one, and the connection that waits for the answer.
+#[derive(Drop)]
+pub(crate) struct ReloadFrom<'x, B: Set> {
+    pub(crate) relay: &'x Relay<B>,
+    pub(crate) ports: &'x FirstPorts,
+    pub(crate) folder: Option<SpoolFolder<'x>>,
+    pub(crate) connection: u64,
+}
+
 /// Makes and holds what a run by a configuration needs before the one that runs ends, and tries what can be made only then.
 /// Refuses another setting of a port, and what the system refuses or is short of; then nothing has changed.
-pub(crate) fn prepared_by<B: Set, R: SpoolDisk + Net + Threads>(
+pub(crate) fn prepared_by<B: Set, R: SpoolDisk + Net + SystemTables + Threads>(
     rt: &R,
     alloc: Global,
-    relay: &Relay<B>,
-    ports: &FirstPorts,
-    folder: Option<SpoolFolder<'_>>,
+    from: ReloadFrom<'_, B>,
     configuration: RunConfiguration,
-    connection: u64,
 ) -> Result<PreparedRun<B>, RefusedReload> {
+    let ReloadFrom {
+        relay,
+        ports,
+        folder,
+        connection,
+    } = from;
     if let Some(refused) = refusal_of(alloc, relay, &configuration) {
         drop(configuration);
         return Err(refused);
@@ -159,11 +172,11 @@ fn lacked_by(list: &[Dest], dests: &[Dest]) -> usize {
     count
 }
 
-/// What is held for a run that is to follow this one, beside its files: its ports, the places of its destinations, and what its
+/// What is held for a run that is to follow this one, beside its files: what it receives with, the places of its destinations, and what its
 /// threads share.
 #[derive(Drop)]
 struct Held {
-    receivers: Vec<BoundPort>,
+    receivers: Vec<Inlet>,
     new_places: NewPlaces,
     shared: SharedParts,
 }
@@ -211,14 +224,14 @@ fn made_ready<B: Set, R: SpoolDisk>(
 }
 
 /// Makes what a run holds from before this one ends, whose destinations have these places here.
-fn held_for<B: Set, R: Net>(
+fn held_for<B: Set, R: Net + SystemTables>(
     rt: &R,
     alloc: Global,
     relay: &Relay<B>,
     ports: &FirstPorts,
     places: &KeptPlaces,
 ) -> Result<Held, Shortage> {
-    let receivers = match ports.for_receivers(alloc) {
+    let receivers = match ports.for_receivers(rt, alloc) {
         Ok(receivers) => receivers,
         Err(fault) => return Err(shortage_of(fault)),
     };

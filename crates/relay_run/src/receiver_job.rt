@@ -33,7 +33,7 @@ pub(crate) struct ReceiverJob<'d, B: Set, R: Wait> {
 impl<'d, B: Set, R: Wait + Clock> ThreadWork<R, ThreadEnd<DoorRecord, FedLog>>
     for ReceiverJob<'d, B, R> {
     fn name(&self, alloc: Global) -> Result<String, AllocError> {
-        String::from_str(alloc, self.port.inlet.name())
+        String::from_str(alloc, self.port.inlet.name().text())
     }
 
     fn work(self, rt: &R, alloc: Global, signals: &Signals) -> ThreadEnd<DoorRecord, FedLog> {

@@ -12,22 +12,22 @@ use log_lines::ReceiverNotes;
 use receivers::{HandedStreams, ReceiverControl};
 use relay_base::{NoMemory, add};
 use relay_files::RelayFault;
-use relay_ports::{BoundPort, Inlet, PortReceiver, Share};
+use relay_ports::{Inlet, PortReceiver, Share};
 use relay_watchers::ReceiverLog;
 use std::sync::Arc;
 
-/// A receiver for each port, each with its door, and adds where the events of each are noted. A seat that is left over is closed
+/// A receiver for each inlet, each with its door, and adds where the events of each are noted. A seat that is left over is closed
 /// unused.
 pub(crate) fn receivers_of<'x, B: Set, R: RelayRuntime>(
     maker: &JobMaker<'x, B, R>,
     doors: Vec<DoorSeat<B>>,
-    ports: Vec<BoundPort>,
+    inlets: Vec<Inlet>,
     logs: &mut Vec<ReceiverLog>,
 ) -> Result<Receiving<ReceiverJob<'x, B, R>>, RelayFault>
     ensures { IfErr result (λ fault. is_start_fault fault ≡ true) }
 {
     let mut receiving = Receiving::none(maker.alloc);
-    match add_seats(maker, doors, ports, &mut receiving, logs) {
+    match add_seats(maker, doors, inlets, &mut receiving, logs) {
         Ok(()) => Ok(receiving),
         Err(fault) => {
             drop(receiving);
@@ -36,28 +36,28 @@ pub(crate) fn receivers_of<'x, B: Set, R: RelayRuntime>(
     }
 }
 
-/// Adds the receivers at these ports, and the records of seats that are left over.
+/// Adds the receivers with these inlets, and the records of seats that are left over.
 fn add_seats<'x, B: Set, R: RelayRuntime>(
     maker: &JobMaker<'x, B, R>,
     doors: Vec<DoorSeat<B>>,
-    ports: Vec<BoundPort>,
+    inlets: Vec<Inlet>,
     receiving: &mut Receiving<ReceiverJob<'x, B, R>>,
     logs: &mut Vec<ReceiverLog>,
 ) -> Result<(), RelayFault>
     ensures { IfErr result (λ fault. is_start_fault fault ≡ true) }
 {
-    let mut ports = ports.into_iter();
+    let mut inlets = inlets.into_iter();
     for (seat, notes) in doors.into_iter().zip(maker.relay.state.receivers()) {
-        add_seat(maker, seat, ports.next(), notes, receiving, logs)?;
+        add_seat(maker, seat, inlets.next(), notes, receiving, logs)?;
     }
     Ok(())
 }
 
-/// Adds the receiver at a port, if there is one, with the door of a seat; otherwise closes the seat unused.
+/// Adds the receiver with an inlet, if there is one, and the door of a seat; otherwise closes the seat unused.
 fn add_seat<'x, B: Set, R: RelayRuntime>(
     maker: &JobMaker<'x, B, R>,
     seat: DoorSeat<B>,
-    port: Option<BoundPort>,
+    inlet: Option<Inlet>,
     notes: &Arc<ReceiverNotes>,
     receiving: &mut Receiving<ReceiverJob<'x, B, R>>,
     logs: &mut Vec<ReceiverLog>,
@@ -65,14 +65,14 @@ fn add_seat<'x, B: Set, R: RelayRuntime>(
     ensures { IfErr result (λ fault. is_start_fault fault ≡ true) }
 {
     let receiver = receiving.jobs.len();
-    let Some(port) = port else {
+    let Some(inlet) = inlet else {
         return Ok(add_unused(maker, seat, &mut receiving.unused)?);
     };
     if receiver >= MOST_RECEIVERS {
-        drop(port);
+        drop(inlet);
         return Ok(add_unused(maker, seat, &mut receiving.unused)?);
     }
-    match noted_inlet(maker, port, receiver, notes, logs, &mut receiving.controls) {
+    match noted_inlet(maker, inlet, receiver, notes, logs, &mut receiving.controls) {
         Ok(inlet) => {
             let job = receiver_job(maker, inlet, receiver, seat);
             Ok(add(&mut receiving.jobs, job)?)
@@ -94,10 +94,10 @@ fn add_unused<'x, B: Set, R: RelayRuntime>(
     add(unused, door.close())
 }
 
-/// What receives at a port, and adds where its events are noted, and what closes and wakes its receiver.
+/// An inlet whose events are noted from now on, and adds where that is, and what closes and wakes its receiver.
 fn noted_inlet<B: Set, R: RelayRuntime>(
     maker: &JobMaker<'_, B, R>,
-    port: BoundPort,
+    inlet: Inlet,
     receiver: usize,
     notes: &Arc<ReceiverNotes>,
     logs: &mut Vec<ReceiverLog>,
@@ -105,7 +105,7 @@ fn noted_inlet<B: Set, R: RelayRuntime>(
 ) -> Result<Inlet, RelayFault>
     ensures { IfErr result (λ fault. is_start_fault fault ≡ true) }
 {
-    let mut inlet = Inlet::new(maker.rt, maker.alloc, port)?;
+    let mut inlet = inlet;
     inlet.set_idle(maker.relay.shape.idle_seconds);
     let handed = maker.relay.streams.get(receiver);
     match add_noted(&mut inlet, handed, notes, logs, controls) {
@@ -127,7 +127,7 @@ fn add_noted(
 ) -> Result<(), NoMemory> {
     inlet.set_notes(notes)?;
     let watched = Arc::clone(notes)?;
-    add(logs, ReceiverLog::new(inlet.name(), inlet.unit(), watched))?;
+    add(logs, ReceiverLog::new(inlet.name().text(), inlet.unit(), watched))?;
     add(controls, inlet.control()?)?;
     match handed {
         Some(handed) => inlet.set_handed(handed),

@@ -6,7 +6,7 @@ ghost use Rattle.relay_ports.specs.StartFault.{is_start_fault};
 use crate::inherited::Inherited;
 use crate::shape::Shape;
 use crate::shared_parts::SharedParts;
-use crate::start::{Process, Start};
+use crate::start::{Begun, Process, Start};
 use finished_run::{FinishedRun, ThreadLogs};
 use live_watch::WatchPlaces;
 use locked_queues::{
@@ -16,7 +16,7 @@ use mio_loops::Readiness;
 use receivers::HandedStreams;
 use relay_base::{LARGEST_MESSAGE, LARGEST_QUEUE_SIZE, MOST_DESTINATIONS};
 use relay_files::{RelayFault, RunConfiguration};
-use relay_ports::{BoundPort, FirstPorts, Ports};
+use relay_ports::{FirstPorts, Inlet, Ports};
 use relay_watchers::{LateNews, ReceiverLog, StatusServer};
 use run_state::{DestSources, EndOrders, RunState};
 use senders::WakeGate;
@@ -49,9 +49,9 @@ pub(crate) struct Relay<B: Set> {
     pub(crate) streams: Vec<Arc<HandedStreams>>,
     pub(crate) late_news: LateNews,
     pub(crate) watches: WatchPlaces,
-    // Since when its milliseconds count, whether no run was before, and the system's limit for the size of a file.
+    // Since when its milliseconds count, its number, from 1 on, and the system's limit for the size of a file.
     pub(crate) began: Option<Instant>,
-    pub(crate) is_first: bool,
+    pub(crate) number: u64,
     pub(crate) file_limit: Option<u64>,
     ghost dests: { (shape.dests ≡ B.dests) × (1 ≤ shape.dests) × (shape.dests ≤ 64) },
     ghost all: { length configuration.settings.routing.destinations ≡ B.dests },
@@ -68,12 +68,12 @@ pub(crate) struct OpenRelay<B: Set, L> {
     pub(crate) ports: FirstPorts,
 }
 
-/// What the threads of a run are given, each its part: the seats at the queues, the ports of receivers, what each sender
-/// waits with, and what that to destinations that are gone and the keeper of files do, and what those get that watch the others.
+/// What the threads of a run are given, each its part: the seats at the queues, what receivers receive with, what each
+/// sender waits with, and what that to destinations that are gone and the keeper of files do, and what those get that watch the others.
 #[derive(Drop)]
 pub(crate) struct Parts<B: Set, L> {
     pub(crate) seats: Seats<B>,
-    pub(crate) receivers: Vec<BoundPort>,
+    pub(crate) receivers: Vec<Inlet>,
     pub(crate) watches: Vec<Readiness>,
     pub(crate) gone_watch: Option<Readiness>,
     pub(crate) keeper_watch: Option<Readiness>,
@@ -105,55 +105,41 @@ pub(crate) struct RefusedStart {
 }
 
 impl<B: Set> Relay<B> {
-    /// Opens a relay, whose log goes to this output, if it has one. Refuses if out of memory, and gives back what ended runs
-    /// left.
+    /// Opens the relay of a run of this number, whose log goes to this output, if it has one. Refuses if out of memory, and gives
+    /// back what ended runs left.
     pub(crate) fn open<L: Drop>(
         alloc: Global,
         start: Start,
         log: Option<L>,
         process: &Process<'_>,
-        is_first: bool,
+        number: u64,
     ) -> Result<OpenRelay<B, L>, RefusedStart>
         requires table { start.blank ≡ B.table }
         requires name { NAME ≡ B.name }
-        requires dests { start.shape.dests ≡ B.dests }
-        requires size { start.shape.size ≡ B.size }
-        requires receivers { start.shape.receivers ≡ B.receivers }
-        requires senders { start.shape.senders ≡ B.senders }
+        requires dests { start.begun.shape.dests ≡ B.dests }
+        requires size { start.begun.shape.size ≡ B.size }
+        requires receivers { start.begun.shape.receivers ≡ B.receivers }
+        requires senders { start.begun.shape.senders ≡ B.senders }
         ensures { IfErr result (λ refused. is_start_fault refused.fault ≡ true) }
     {
-        let Start {
-            configuration,
-            shape,
-            ports,
-            blank,
-            shared,
-            inherited,
-        } = start;
-        let (dests, size) = (shape.dests, shape.size);
-        let (receivers, senders) = (shape.receivers, shape.senders);
+        let Start { begun, blank } = start;
+        let (dests, size) = (begun.shape.dests, begun.shape.size);
+        let (receivers, senders) = (begun.shape.receivers, begun.shape.senders);
         match Queues::<B>::new(alloc, blank, NAME, dests, size, receivers, senders) {
-            Ok(opened) => Ok(open_relay(
-                configuration,
-                shape,
-                opened,
-                shared,
-                inherited,
-                ports,
-                log,
-                process,
-                is_first,
-            )),
+            Ok(opened) => Ok(open_relay(begun, opened, log, process, number)),
             Err(_) => {
-                drop(configuration);
-                drop((ports, shared));
                 drop(log);
                 Err(RefusedStart {
                     fault: RelayFault::NoMemory,
-                    inherited,
+                    inherited: begun.inherited,
                 })
             }
         }
+    }
+
+    /// Whether no run was before.
+    pub(crate) fn is_first(&self) -> bool {
+        self.number <= 1
     }
 
     /// Its destinations, with their events.
@@ -191,24 +177,23 @@ impl<B: Set> Relay<B> {
     }
 }
 
-/// An open relay, with what its threads are given.
+/// An open relay of a run of this number, with what its threads are given.
 fn open_relay<B: Set, L: Drop>(
-    configuration: RunConfiguration,
-    shape: Shape,
+    begun: Begun,
     opened: Opened<B>,
-    shared: SharedParts,
-    inherited: Inherited,
-    ports: Ports<StatusServer>,
     log: Option<L>,
     process: &Process<'_>,
-    is_first: bool,
+    number: u64,
 ) -> OpenRelay<B, L>
-    requires dests { (shape.dests ≡ B.dests) × (1 ≤ shape.dests) × (shape.dests ≤ MOST_DESTINATIONS) }
-    requires all { length configuration.settings.routing.destinations ≡ B.dests }
-    requires size { (1 ≤ shape.size) × (shape.size ≤ LARGEST_QUEUE_SIZE) }
-    requires limit { (1 ≤ shape.limit) × (shape.limit ≤ LARGEST_MESSAGE) }
-    requires receivers { (1 ≤ shape.receivers) × (shape.receivers ≤ MOST_RECEIVERS) }
+    requires dests { begun.shape.dests ≡ B.dests }
 {
+    let Begun {
+        configuration,
+        shape,
+        ports,
+        shared,
+        inherited,
+    } = begun;
     let Opened {
         queues,
         doors,
@@ -256,7 +241,7 @@ fn open_relay<B: Set, L: Drop>(
             late_news: LateNews::none(),
             watches: WatchPlaces::new(),
             began: process.began,
-            is_first,
+            number,
             file_limit: process.file_limit(),
         },
         parts: Parts {

@@ -22,7 +22,7 @@ use crate::admin::{FirstState, RunBefore};
 use crate::closing::write_end;
 use crate::ended_run::{EndedRun, ended_of};
 use crate::inherited::Inherited;
-use crate::next_start::start_after;
+use crate::next_start::{KeptByFirst, start_after};
 use crate::prepared_run::PreparedRun;
 use crate::relay::{NAME, OpenRelay, Parts, Relay};
 use crate::reload_source::ReloadSource;
@@ -212,10 +212,10 @@ fn run_relay<
 ) -> Result<RunEnd<L>, RelayFault>
     requires table { next.start.blank ≡ B.table }
     requires name { NAME ≡ B.name }
-    requires dests { next.start.shape.dests ≡ B.dests }
-    requires size { next.start.shape.size ≡ B.size }
-    requires receivers { next.start.shape.receivers ≡ B.receivers }
-    requires senders { next.start.shape.senders ≡ B.senders }
+    requires dests { next.start.begun.shape.dests ≡ B.dests }
+    requires size { next.start.begun.shape.size ≡ B.size }
+    requires receivers { next.start.begun.shape.receivers ≡ B.receivers }
+    requires senders { next.start.begun.shape.senders ≡ B.senders }
     ensures { EndsARun (opening (is_none next.before.waiting))
         (W.contents output.old) (W.contents output.new) result }
 {
@@ -225,12 +225,11 @@ fn run_relay<
         before,
         number,
     } = next;
-    let is_first = before.waiting.is_none();
     let OpenRelay {
         relay,
         parts,
         ports,
-    } = match Relay::<B>::open(alloc, start, log, process, is_first) {
+    } = match Relay::<B>::open(alloc, start, log, process, number) {
         Ok(opened) => opened,
         Err(refused) => {
             drop(before);
@@ -259,19 +258,20 @@ fn run_relay<
     let left = match left {
         Ok(records) => RunLeft {
             records,
+            ports,
             log,
             server,
         },
         Err(fault) => {
             drop(ports);
             drop((log, server));
-            spool_failed(rt, alloc, relay, next, process, number);
+            spool_failed(rt, alloc, relay, next, process);
             return Err(fault);
         }
     };
     match next {
         Some(next) => {
-            let following = follow(rt, alloc, relay, left, next, ports, process, number);
+            let following = follow(rt, alloc, relay, left, next, process);
             Ok(RunEnd::Followed(following))
         }
         None => {
@@ -281,7 +281,7 @@ fn run_relay<
                 relay.noted().dests,
                 relay.state.spool_notes(),
             );
-            stopped(stop(alloc, relay, left, ports, output, recorder))
+            stopped(stop(alloc, relay, left, output, recorder))
         }
     }
 }
@@ -291,7 +291,6 @@ fn stop<B: Set, W: Write, L: Drop, K: Recorder>(
     alloc: Global,
     relay: Relay<B>,
     left: RunLeft<L>,
-    ports: FirstPorts,
     output: &mut W,
     recorder: &mut Option<K>,
 ) -> Result<Status, RelayFault>
@@ -304,6 +303,7 @@ fn stop<B: Set, W: Write, L: Drop, K: Recorder>(
     let mut relay = relay;
     let RunLeft {
         records,
+        ports,
         log,
         server,
     } = left;
@@ -340,14 +340,13 @@ fn follow<B: Set, R: RelayRuntime, L: Drop>(
     relay: Relay<B>,
     left: RunLeft<L>,
     next: PreparedRun<B>,
-    ports: FirstPorts,
     process: &Process<'_>,
-    number: u64,
 ) -> NextRun<L>
     ensures { is_none result.before.waiting ≡ false }
 {
     let RunLeft {
         records,
+        ports,
         log,
         server,
     } = left;
@@ -357,11 +356,15 @@ fn follow<B: Set, R: RelayRuntime, L: Drop>(
     };
     let PreparedRun { next, room } = next;
     let waiting = next.connection;
-    let mut ended = ended_of(alloc, relay, room, number, records);
+    let number = relay.number;
+    let mut ended = ended_of(alloc, relay, room, records);
     let millis = SystemTimes::since(rt, process.began).millis();
-    let start = start_after(
-        alloc, &mut ended, next, ports, server, logged, process, millis,
-    );
+    let kept = KeptByFirst {
+        ports,
+        server,
+        logged,
+    };
+    let start = start_after(alloc, &mut ended, next, kept, process, millis);
     NextRun {
         start,
         log: output,
@@ -393,14 +396,13 @@ fn spool_failed<B: Set, R: RelayRuntime>(
     relay: Relay<B>,
     next: Option<PreparedRun<B>>,
     process: &Process<'_>,
-    number: u64,
 ) {
     let room = match next {
         Some(PreparedRun { next, room }) => {
             drop(next);
             Some(room)
         }
-        None if relay.is_first => {
+        None if relay.is_first() => {
             drop(relay);
             return;
         }
@@ -415,7 +417,7 @@ fn spool_failed<B: Set, R: RelayRuntime>(
     spool_ended(
         rt,
         alloc,
-        ended_of(alloc, relay, room, number, Records::none(alloc)),
+        ended_of(alloc, relay, room, Records::none(alloc)),
         process,
     );
 }

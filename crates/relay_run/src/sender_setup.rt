@@ -155,7 +155,7 @@ fn places_of<'x, B: Set, R: RelayRuntime>(
     let dests = relay.shape.dests;
     let has_files = relay.shape.is_spooled && relay.shape.spool_size.is_none();
     let files = if has_files { dests } else { 0 };
-    let rests = if relay.is_first { 0 } else { dests };
+    let rests = if relay.is_first() { 0 } else { dests };
     let (file_notes, rest_notes) = (relay.state.spool_notes(), relay.state.rests());
     SenderPlaces::new(
         maker.alloc,

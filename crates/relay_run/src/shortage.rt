@@ -1,7 +1,8 @@
 //! What the system is short of for a run that is to follow.
 //!
-//! A reload tries what the next run needs before it changes anything, and gives all back at once. Then it makes and holds a part
-//! of that: the rest may be missing all the same once that run begins, if another program took it.
+//! A reload tries what the next run needs before it changes anything, and gives all back at once. Then it makes and holds all that
+//! needs a descriptor. Memory for queues and jobs, and threads, may be missing all the same once that run begins, if another
+//! program took them.
 
 use crate::relay::Relay;
 use conf_text::Dest;

@@ -19,14 +19,20 @@ use status_server::StatusListener;
 use std::alloc::Global;
 use std::time::Instant;
 
-/// What a run begins with: its configuration and its numbers, its ports, which are bound, the totals of its queues, what its
-/// threads share, and what ended runs left.
+/// What a run begins with: all but its queues, and the totals of these.
 #[derive(Drop)]
 pub(crate) struct Start {
+    pub(crate) begun: Begun,
+    pub(crate) blank: BlankTotals,
+}
+
+/// What a run begins with beside its queues: its configuration and its numbers, its ports, which are bound, what its threads
+/// share, and what ended runs left.
+#[derive(Drop)]
+pub(crate) struct Begun {
     pub(crate) configuration: RunConfiguration,
     pub(crate) shape: Shape,
     pub(crate) ports: Ports<StatusServer>,
-    pub(crate) blank: BlankTotals,
     pub(crate) shared: SharedParts,
     pub(crate) inherited: Inherited,
     ghost dests: { (shape.dests ≡ length configuration.settings.routing.destinations)
@@ -87,14 +93,16 @@ impl Start {
         };
         let shape = shape_of(settings, ports.receivers.len(), process);
         match begin_with(rt, alloc, settings, &shape, process) {
-            Ok((inherited, blank, shared)) => Ok(Start {
-                configuration,
-                shape,
-                ports,
-                blank,
-                shared,
-                inherited,
-            }),
+            Ok((inherited, blank, shared)) => {
+                let begun = Begun {
+                    configuration,
+                    shape,
+                    ports,
+                    shared,
+                    inherited,
+                };
+                Ok(Start { begun, blank })
+            }
             Err(fault) => {
                 drop(configuration);
                 drop(ports);

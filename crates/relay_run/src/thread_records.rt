@@ -9,6 +9,7 @@ use finished_run::ThreadLogs;
 use locked_queues::{DoorRecord, OutletRecord};
 use relay_base::{NoMemory, add};
 use relay_files::RelayFault;
+use relay_ports::FirstPorts;
 use relay_watchers::{LogEnd, StatusServer};
 use std::alloc::Global;
 
@@ -36,10 +37,11 @@ impl Records {
     }
 }
 
-/// What the threads of a run left: what they recorded, the log, if there is one, and the status server.
+/// What the threads of a run left: what they recorded, the ports of the first one, the log, if there is one, and the status server.
 #[derive(Drop)]
 pub(crate) struct RunLeft<O> {
     pub(crate) records: Records,
+    pub(crate) ports: FirstPorts,
     pub(crate) log: Option<LogEnd<O>>,
     pub(crate) server: Option<StatusServer>,
 }

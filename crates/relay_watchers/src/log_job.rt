@@ -6,6 +6,7 @@ use crate::dest_rest::{DestRest, RestOfAll};
 use crate::late_news::LateNews;
 use crate::log_writes::{write_dest_end, write_gone_end, write_line, write_relay_end, write_text};
 use crate::receiver_log::ReceiverLog;
+use crate::watchers::Watched;
 use conf_text::Dest;
 use locked_queues::{MOST_SENDERS, Queues, Set};
 use log_lines::{
@@ -403,32 +404,26 @@ fn lost_sender_line(alloc: Global, number: usize) -> Result<String, AllocError> 
     Ok(line)
 }
 
-/// The log of destinations, all of them, with this size of their queues, of receivers, and of destinations that are gone, if
-/// one is to be written. It begins with these news. Refuses if out of memory.
+/// The log of what is watched, and of these receivers, if one is to be written. It begins with these news. Refuses if out of memory.
 pub(crate) fn log_to<'x, B: Set, L: Write + Drop>(
     alloc: Global,
-    queues: &'x Queues<B>,
-    noted: DestSources<'x>,
-    gone: GoneSources<'x>,
-    late_news: &'x LateNews,
-    size: usize,
+    watched: &Watched<'x, B>,
     receivers: Vec<ReceiverLog>,
     news: String,
     log: Option<L>,
-    began: Option<Instant>,
 ) -> Result<Option<LogJob<'x, B, L>>, NoMemory>
-    requires all { length noted.dests.now ≡ B.dests }
+    requires all { length watched.now.noted.dests.now ≡ B.dests }
 {
     let Some(output) = log else {
         return Ok(None);
     };
-    let reported = reported_of(alloc, noted)?;
+    let reported = reported_of(alloc, watched.noted)?;
     Ok(Some(LogJob {
-        queues,
-        noted,
-        gone,
-        late_news,
-        size,
+        queues: watched.queues,
+        noted: watched.noted,
+        gone: watched.gone,
+        late_news: watched.late_news,
+        size: watched.size,
         reported,
         receivers,
         gone_reported: 0,
@@ -436,6 +431,6 @@ pub(crate) fn log_to<'x, B: Set, L: Write + Drop>(
         spool_tenths: 0,
         news,
         output,
-        began,
+        began: watched.began,
     }))
 }

@@ -56,18 +56,7 @@ pub fn watchers_of<'x, B: Set, L: Write + Drop>(
     if server.is_some() {
         want_producers(shown.as_slice());
     }
-    let logging = log_to(
-        alloc,
-        watched.queues,
-        watched.noted,
-        watched.gone,
-        watched.late_news,
-        watched.size,
-        receivers,
-        news,
-        log,
-        watched.began,
-    )?;
+    let logging = log_to(alloc, watched, receivers, news, log)?;
     let watch = StatusWatch {
         queues: watched.queues,
         noted: watched.noted,

@@ -6,9 +6,9 @@ use crate::dest_list::copy_list;
 use crate::diversions::{DivertTo, QueueLevels};
 use crate::divert_sink::{DivertSink, IntakeSink};
 use crate::sender_places::Share;
+use crate::spool_orders::SpoolOrders;
 use mio_loops::ReadinessFault;
 use relay_base::{DestId, MOST_DESTINATIONS};
-use run_state::{EndOrders, Signals};
 use senders::{Connect, KeptSocket, Lookup, StoreConnector, StoreStream};
 use spool::Intake;
 use std::net::Net;
@@ -47,8 +47,7 @@ pub(crate) struct DivertConnector<'n, 's, N: Connect, R, Q> {
     levels: Q,
     to: Option<DivertTo<'n>>,
     share: Share<'n>,
-    signals: &'s Signals,
-    orders: &'s EndOrders,
+    orders: SpoolOrders<'s>,
     given: [Given; MOST_DESTINATIONS],
     ready: [DestId; MOST_DESTINATIONS],
 }
@@ -61,8 +60,7 @@ impl<'n, 's, N: Connect, R: Wait + Copy + Drop, Q: QueueLevels> DivertConnector<
         levels: Q,
         to: Option<DivertTo<'n>>,
         share: Share<'n>,
-        signals: &'s Signals,
-        orders: &'s EndOrders,
+        orders: SpoolOrders<'s>,
     ) -> DivertConnector<'n, 's, N, R, Q> {
         DivertConnector {
             connector,
@@ -70,7 +68,6 @@ impl<'n, 's, N: Connect, R: Wait + Copy + Drop, Q: QueueLevels> DivertConnector<
             levels,
             to,
             share,
-            signals,
             orders,
             given: [Given::Nothing; MOST_DESTINATIONS],
             ready: [DestId(0); MOST_DESTINATIONS],
@@ -96,7 +93,7 @@ impl<'n, 's, N: Connect, R: Wait + Copy + Drop, Q: QueueLevels> DivertConnector<
 
     /// Whether the last connection of a destination is its intake: the relay is about to end.
     fn is_ending(&self, dest: DestId) -> bool {
-        self.signals.is_spooling() || self.orders.is_spooled(dest)
+        self.orders.is_spooled(dest)
     }
 
     /// The connection to the store of a destination that is not diverted, if there is one.
@@ -252,7 +249,7 @@ impl<'n, 's, N: Connect, R: Wait + Copy + Drop, Q: QueueLevels> DivertConnector<
 
     /// Whether the connection of a destination to its store is given up.
     fn is_given_up(&self, dest: DestId, intake: &Intake) -> bool {
-        if self.signals.is_handing() {
+        if self.orders.is_handing() {
             return false;
         }
         self.is_ending(dest) || intake.is_blocked() && self.levels.is_filled(dest, LIVE_EIGHTHS)

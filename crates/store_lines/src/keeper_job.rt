@@ -5,6 +5,7 @@ use crate::keeper::{Keeper, KeeperRoom, KeptDest};
 use crate::left_dest::LeftDest;
 use crate::sender_places::Share;
 use crate::spool_connector::{SenderSpool, SpoolConnector};
+use crate::spool_orders::SpoolOrders;
 use mio_loops::{SystemTimes, TimeSource};
 use relay_base::{DestId, NoMemory, add};
 use run_state::{BeginNote, EndOrders, Signals, ThreadWork};
@@ -152,8 +153,9 @@ impl<'x, R: Wait + Clock + Net + SpoolDisk + Copy + Drop> ThreadWork<R, ()> for 
         let times = SystemTimes::since(rt, began);
         places.take_files(rt, &share, &mut connector, times.millis());
         let KeeperPlaces { spool, dests, used } = places;
+        let orders = SpoolOrders::of(signals, orders);
         let connector = SpoolConnector::new(
-            connector, *rt, spool, &share, signals, orders,
+            connector, *rt, spool, &share, orders,
         ).without_files();
         let mut keeper = Keeper {
             connector,

@@ -4,6 +4,9 @@
 //! slot has ([`DestSlots`]); then the batches of its queue; and at the end of a run what is left goes to its file, or, if another
 //! run follows, into the slot. [`PartingJob`] sends what is left to destinations that are gone ([`GoneDests`]).
 //!
+//! In a run that diverts destinations ([`Diversions`]) a sender writes to an intake while a store is away, and [`KeeperJob`] keeps
+//! and sends the files.
+//!
 //! `specs/LeftDest.antt` says what is left for a destination ([`LeftDest`]).
 #![tactic(auto)]
 
@@ -25,6 +28,7 @@ mod rest_files;
 mod sender_places;
 mod spool_connector;
 mod spool_left;
+mod spool_orders;
 
 pub use dest_slots::DestSlots;
 pub use diversions::{Diversions, DivertTo, QueueLevels};

@@ -10,6 +10,7 @@ use crate::divert_connector::DivertConnector;
 use crate::rest_connector::RestConnector;
 use crate::sender_places::{SenderPlaces, Share};
 use crate::spool_connector::SpoolConnector;
+use crate::spool_orders::SpoolOrders;
 use mio_loops::TimeSource;
 use queue_records::Supply;
 use run_state::{BeginNote, EndOrders, EndState, Signals};
@@ -78,12 +79,11 @@ impl<'x, R: Wait + Clock + Net + SpoolDisk + Copy + Drop, Q: QueueLevels + Drop>
             end,
         } = self;
         let dests = share.dests;
-        let mut connector = DivertConnector::new(
-            connector, *rt, levels, divert, share, signals, orders,
-        );
+        let orders = SpoolOrders::of(signals, orders);
+        let mut connector = DivertConnector::new(connector, *rt, levels, divert, share, orders);
         places.take_lefts(rt, &share, &mut connector, times.millis());
         let SenderPlaces { spool, rests } = places;
-        let connector = SpoolConnector::new(connector, *rt, spool, &share, signals, orders);
+        let connector = SpoolConnector::new(connector, *rt, spool, &share, orders);
         let connector = RestConnector::new(alloc, connector, rests, share, signals);
         let connector = CountedConnector::new(connector, end, BeginNote::new(signals));
         let stop = signals.senders();

@@ -7,6 +7,7 @@ use crate::rest_connector::RestConnector;
 use crate::sender_places::{SenderPlaces, Share};
 use crate::spool_connector::SpoolConnector;
 use crate::spool_left::{SpooledLeft, spool_left};
+use crate::spool_orders::SpoolOrders;
 use mio_loops::{SystemTimes, TimeSource};
 use relay_base::DestId;
 use run_state::{EndOrders, GoneEnd, Signals, ThreadWork};
@@ -65,13 +66,12 @@ impl<'x, R: Wait + Clock + Net + SpoolDisk + Copy + Drop> ThreadWork<R, ()> for 
             senders: 1,
         };
         let times = SystemTimes::since(rt, began);
-        let mut connector = DivertConnector::new(
-            connector, *rt, NoLevels, None, share, signals, orders,
-        );
+        let orders = SpoolOrders::of(signals, orders);
+        let mut connector = DivertConnector::new(connector, *rt, NoLevels, None, share, orders);
         places.take_lefts(rt, &share, &mut connector, times.millis());
         let SenderPlaces { spool, rests } = places;
         let connector = SpoolConnector::new(
-            connector, *rt, spool, &share, signals, orders,
+            connector, *rt, spool, &share, orders,
         ).without_files();
         let connector = RestConnector::new(alloc, connector, rests, share, signals);
         send_all(rt, connector, gone, &times, signals);

@@ -9,10 +9,10 @@ use crate::left_dest::socket_of;
 use crate::rest_files::RestFiles;
 use crate::sender_places::Share;
 use crate::spool_left::{SpooledRest, spool_rest};
+use crate::spool_orders::SpoolOrders;
 use handover::Rest;
 use mio_loops::ReadinessFault;
 use relay_base::{DestId, MOST_DESTINATIONS, NoMemory, add};
-use run_state::{EndOrders, Signals};
 use senders::{Connect, HalfClose, KeptSocket, StoreEnd};
 use spool::{DestSpool, FileConnection, FileSink, KeptLines, SpoolDisk, SpoolNotes, Turn};
 use std::alloc::Global;
@@ -148,8 +148,7 @@ pub(crate) struct SpoolConnector<'n, 's, N: Connect, D> {
     disk: D,
     spool: SenderSpool<'n, N::Sink>,
     slots: &'n DestSlots,
-    signals: &'s Signals,
-    orders: &'s EndOrders,
+    orders: SpoolOrders<'s>,
     // Whether the last connections are files.
     may_spool: bool,
     ready: [DestId; MOST_DESTINATIONS],
@@ -165,15 +164,13 @@ where
         disk: D,
         spool: SenderSpool<'n, N::Sink>,
         share: &Share<'n>,
-        signals: &'s Signals,
-        orders: &'s EndOrders,
+        orders: SpoolOrders<'s>,
     ) -> SpoolConnector<'n, 's, N, D> {
         SpoolConnector {
             connector,
             disk,
             spool,
             slots: share.slots,
-            signals,
             orders,
             may_spool: true,
             ready: [DestId(0); MOST_DESTINATIONS],
@@ -280,8 +277,7 @@ where
 
     /// Whether the last connection of a destination is its new file.
     fn is_spooling(&self, dest: DestId) -> bool {
-        let is_told = self.signals.is_spooling() || self.orders.is_spooled(dest);
-        self.may_spool && is_told && !self.spool.is_none()
+        self.may_spool && self.orders.is_spooled(dest) && !self.spool.is_none()
     }
 
     /// Leaves the files of a destination in their slot, with the socket that the earlier one goes out on if another run
@@ -294,11 +290,11 @@ where
             self.slots.leave_files(place, Some(files), None);
             return;
         };
-        let socket = socket_of(&mut self.connector, self.signals, DestId(place), sink);
+        let socket = socket_of(&mut self.connector, self.orders.signals, DestId(place), sink);
         let notes = self.spool.notes.get(place);
         match &socket {
             Some(_) => {}
-            None if self.signals.is_handing() => files.send_again(notes),
+            None if self.orders.is_handing() => files.send_again(notes),
             None => files.reconnect(notes),
         }
         self.slots.leave_files(place, Some(files), socket);
