@@ -172,11 +172,12 @@ impl DestSpool {
             Some(first) if first.number > LATE_SEGMENT => {}
             _ => return,
         }
+        let mut number: u32 = 0;
         for place in 0..self.later.len() {
             let Some(segment) = self.later.as_slice().get(place) else {
                 return;
             };
-            let number = (place as u32).saturating_add(1);
+            number = number.saturating_add(1);
             if !self.moves_segment(disk, segment.number, number) {
                 return;
             }
