@@ -8,7 +8,8 @@ use relay_base::DestId;
 
 /// Whether these offers are one to each of these destinations, in their order.
 pub(crate) fn agree(offers: &[NotedOffer], dests: &[DestId]) -> bool
-    ensures { IsTrue result → AreTo offers.now dests.now }
+    ensures agrees { IsTrue result → AreTo offers.now dests.now }
+    ensures differs { AreTo offers.now dests.now → IsTrue result }
 {
     if offers.len() != dests.len() {
         return false;
