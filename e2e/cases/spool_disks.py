@@ -15,7 +15,7 @@ from cases.spool_diversion import MANY, STEP, Diversion
 from fixtures.harness import LIMIT
 from fixtures.log import Log
 from fixtures.program import TOP
-from fixtures.spooling import numbered, text_of
+from fixtures.spooling import ALL, numbered, text_of
 
 LIBC = ctypes.CDLL(None, use_errno=True)
 REMOUNT, DETACH = 32, 2  # flags of mount and umount
@@ -140,6 +140,44 @@ class Disks(Diversion):
             self.assertEqual(store.lines(), [line for line in lines if line in came], "in order, once")
             self.assertEqual(len(came), len(lines) - dropped)
             self.over(relay)
+
+    def goes_meanwhile(self, is_mended):
+        """A destination goes while its disk fails, or once that is mended: what it was to get, how many of that were kept, and
+        what the log said."""
+        _, fails = self.fuse()
+        _, dest = self.away()
+        beside, = self.stores(1)
+        other = f"127.0.0.1:{beside.port}"
+        lines = numbered(40_000)
+        with self.diverting([dest, other], "--log", "--drain", "1", size="1073741824") as relay:
+            log = Log(relay.child.stderr)
+            with open(fails, "w", encoding="ascii") as file:
+                file.write(str(errno.EIO))
+            self.pours(relay, lines, place=1)
+            self.has_all(beside, lines)
+            self.assertGreater(self.dropped(relay), 0)
+            kept = relay.report()[0][1]["kept"]
+            if is_mended:
+                os.remove(fails)
+            self.given({"config": relay.config.replace(f"{dest}, ", "", 1), "rules": ALL.format(other), "rewrite": None})
+            self.assertEqual(self.run_words(["reload", "--admin", str(relay.admin)]).status, 0)
+            self.wait_for(lambda: any(line.startswith(b"gone, ") for line in log.of(dest)), "the log says what became of it")
+            self.over(relay)
+            log.thread.join(LIMIT)
+        return lines, kept, log.of(dest)
+
+    def test_a_store_that_goes_while_its_disk_fails(self):
+        """What waited for it is counted, also what was on its way to a file."""
+        _, kept, said = self.goes_meanwhile(is_mended=False)
+        self.assertIn(b"gone, %d datapoints not sent" % kept, said)
+
+    def test_a_store_that_goes_once_its_disk_is_mended(self):
+        """All that waited for it is in files, in order."""
+        lines, kept, _ = self.goes_meanwhile(is_mended=True)
+        held = [line for name in self.files() for line in self.held(name)]
+        self.assertEqual(len(held), kept)
+        own = set(held)
+        self.assertEqual(held, [line for line in lines if line in own])
 
     def test_a_disk_that_hangs(self):
         """The median way of a line to another store stays; once the disk goes on, so do the files."""

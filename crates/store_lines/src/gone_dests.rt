@@ -177,10 +177,25 @@ impl GoneDests {
         count
     }
 
-    /// This is the end of the destination of a place.
+    /// This is the end of the destination of a place. What its files did not take was lost before.
     pub(crate) fn note_over(&self, place: usize, end: GoneEnd) {
+        let end = GoneEnd {
+            spooled: end.spooled,
+            unsent: end.unsent.saturating_add(self.lost_at(place)),
+        };
         if let Some(shown) = self.shown.get(place) {
             shown.notes.note_over(end);
+        }
+    }
+
+    /// How many datapoints of the destination of a place were to go to its files, and did not.
+    fn lost_at(&self, place: usize) -> u64 {
+        match self.files.get(place) {
+            Some(notes) => {
+                let (taken, kept) = notes.datapoints();
+                taken.saturating_sub(kept)
+            }
+            None => 0,
         }
     }
 }

@@ -7,6 +7,7 @@ use crate::divert_sink::DivertSink;
 use crate::left_dest::LeftDest;
 use crate::rest_connector::SenderRests;
 use crate::spool_connector::{SenderSpool, SpoolSink};
+use crate::spool_left::write_lines;
 use relay_base::{DestId, NoMemory};
 use run_state::RestNotes;
 use senders::{Lookup, StoreConnector, StoreStream};
@@ -79,15 +80,17 @@ impl<'n, D: SpoolDisk + Wait + Net + Copy + Drop> SenderPlaces<'n, D> {
                 } else {
                     share.slots.take(place)
                 };
-                self.take_left(place, left, connector, millis);
+                self.take_left(rt, place, left, connector, millis);
             }
         }
     }
 
     /// Has what is left for a destination sent: its connection goes on with the earlier file, if that is not sent yet, and
-    /// otherwise with the rest. A later rest is behind another one.
+    /// otherwise with the rest. A later rest is behind another one. Lines that could not be written are tried once more: of a
+    /// destination that is gone nobody keeps them.
     fn take_left<'s, L: Lookup + Drop, Q: QueueLevels>(
         &mut self,
+        rt: &D,
         place: usize,
         left: LeftDest,
         connector: &mut DivertConnector<'n, 's, StoreConnector<'n, D, L>, D, Q>,
@@ -97,11 +100,12 @@ impl<'n, D: SpoolDisk + Wait + Net + Copy + Drop> SenderPlaces<'n, D> {
         let LeftDest {
             rest,
             later,
-            files,
+            mut files,
             socket,
             lines,
         } = left;
-        drop(lines);
+        let lost = write_lines(rt, lines, files.as_mut(), self.spool.limit());
+        self.spool.note_left_out(place, lost);
         let mut sink = match socket {
             Some(socket) => connector.keep(DestId(place), socket, millis),
             None => None,

@@ -84,6 +84,18 @@ impl<'n, W: Drop> SenderSpool<'n, W> {
         spool
     }
 
+    /// The system's limit for the size of a file, in bytes, if there is one.
+    pub(crate) fn limit(&self) -> Option<u64> {
+        self.limit
+    }
+
+    /// So many datapoints of a destination were to go to a file, and did not.
+    pub(crate) fn note_left_out(&self, place: usize, datapoints: u64) {
+        if let Some(notes) = self.notes.get(place) {
+            notes.note_left_out(datapoints);
+        }
+    }
+
     /// From now on these are the files of a destination. The connection that the earlier one went out on goes on, if it is
     /// there.
     pub(crate) fn begin(&mut self, place: usize, files: Option<DestSpool>, sink: Option<W>) {

@@ -5,8 +5,11 @@ use crate::left_dest::{LeftDest, counts_of};
 use dest_writer::GatherBuf;
 use handover::{Rest, RestConnection, RestTurn};
 use run_state::GoneEnd;
-use spool::{DestSpool, FileSink, SpoolDisk, SpoolNotes};
+use spool::{DestSpool, FileSink, KeptLines, SegmentLimits, SpoolDisk, SpoolNotes};
 use std::alloc::Global;
+
+/// How large a segment becomes of lines that are written once the run has ended, in bytes: 64 MiB.
+const SEGMENT: u64 = 67_108_864;
 
 /// What became of what was left for a destination, and its files, if there are: the earlier one holds what they keep.
 #[derive(Drop)]
@@ -26,12 +29,13 @@ pub(crate) fn spool_left<D: SpoolDisk + Drop>(
     let LeftDest {
         rest,
         later,
-        files,
+        mut files,
         socket,
         lines,
     } = left;
-    drop((socket, lines));
-    match files {
+    drop(socket);
+    let lost = write_lines(&disk, lines, files.as_mut(), limit);
+    let mut spooled = match files {
         Some(files) => spool_rests(disk, alloc, rest, later, files, limit),
         None => {
             drop((disk, rest, later));
@@ -41,6 +45,55 @@ pub(crate) fn spool_left<D: SpoolDisk + Drop>(
                     unsent: queued.saturating_add(in_hand) as u64,
                 },
                 files: None,
+            }
+        }
+    };
+    spooled.end.unsent = spooled.end.unsent.saturating_add(lost);
+    spooled
+}
+
+/// Writes the lines that a run which diverts destinations could not write behind the files of their destination. Returns how many
+/// datapoints these do not take either: they are lost.
+pub(crate) fn write_lines<D: SpoolDisk>(
+    disk: &D,
+    lines: Option<KeptLines>,
+    files: Option<&mut DestSpool>,
+    limit: Option<u64>,
+) -> u64 {
+    let Some(mut lines) = lines else {
+        return 0;
+    };
+    if let Some(files) = files {
+        append_lines(disk, &mut lines, files, limit);
+        let _synced = files.end_segments(disk);
+    }
+    let lost = lines.datapoints();
+    drop(lines);
+    lost
+}
+
+/// Writes lines behind the files of their destination, as far as these take them.
+fn append_lines<D: SpoolDisk>(
+    disk: &D,
+    lines: &mut KeptLines,
+    files: &mut DestSpool,
+    limit: Option<u64>,
+) {
+    let limits = SegmentLimits {
+        segment: SEGMENT,
+        file: limit,
+    };
+    for _ in 0..u64::MAX {
+        let left = lines.within(u64::MAX);
+        if left.is_empty() {
+            return;
+        }
+        match files.append(disk, limits, left) {
+            Ok(count) if count > 0 => lines.pass(count),
+            Ok(_) => return,
+            Err(error) => {
+                drop(error);
+                return;
             }
         }
     }
