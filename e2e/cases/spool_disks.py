@@ -213,7 +213,7 @@ class Disks(Diversion):
             mark = b"%s%d 1 1\n" % (prefix, number)
             began = time.monotonic()
             relay.lines(mark)
-            self.wait_for(lambda mark=mark: mark in bytes(store.taken[-1][-200_000:]), "the line has come")
+            self.wait_for(lambda mark=mark: store.taken and mark in bytes(store.taken[-1][-200_000:]), "the line has come")
             ways.append(time.monotonic() - began)
         pouring.join()
         return statistics.median(ways)
