@@ -1,5 +1,7 @@
 //! What a sender writes to while a destination is diverted.
 
+ghost use Rattle.std.specs.Prelude.{◌≤◌, length};
+
 use crate::pipe::Pipe;
 use relay_base::NoMemory;
 use std::alloc::Global;
@@ -67,7 +69,9 @@ impl Intake {
     }
 
     /// Takes a first part of these bytes, as far as there is room. Returns how many, and whether it is half full then.
-    pub fn push<R: Wait>(&self, rt: &R, bytes: &[u8]) -> (usize, bool) {
+    pub fn push<R: Wait>(&self, rt: &R, bytes: &[u8]) -> (usize, bool)
+        ensures count { result.0 ≤ length bytes.now }
+    {
         let mut inside = self.inside.lock(rt);
         let count = inside.pipe.push(bytes);
         (count, inside.pipe.len() >= INTAKE_ROOM / 2)

@@ -9,9 +9,8 @@ use crate::sender_places::Share;
 use crate::spool_orders::SpoolOrders;
 use mio_loops::ReadinessFault;
 use relay_base::{DestId, MOST_DESTINATIONS};
-use senders::{Connect, KeptSocket, Lookup, StoreConnector, StoreStream};
+use senders::{Connect, KeptSocket};
 use spool::Intake;
-use std::net::Net;
 use std::sync::Wait;
 
 /// How full the queue of a live destination is, in eighths, once it is diverted.
@@ -41,7 +40,7 @@ enum Given {
 ///
 /// In a run that diverts nothing it connects as the other connector does.
 #[derive(Drop)]
-pub(crate) struct DivertConnector<'n, 's, N: Connect, R, Q> {
+pub(crate) struct DivertConnector<'n, 's, N, R, Q> {
     connector: N,
     rt: R,
     levels: Q,
@@ -72,6 +71,20 @@ impl<'n, 's, N: Connect, R: Wait + Copy + Drop, Q: QueueLevels> DivertConnector<
             given: [Given::Nothing; MOST_DESTINATIONS],
             ready: [DestId(0); MOST_DESTINATIONS],
         }
+    }
+
+    /// These destinations go on with the connections to their stores that an ended run had.
+    pub(crate) fn with_kept(
+        self,
+        are_kept: &[bool; MOST_DESTINATIONS],
+    ) -> DivertConnector<'n, 's, N, R, Q> {
+        let mut connector = self;
+        for (place, is_kept) in are_kept.iter().enumerate() {
+            if *is_kept {
+                connector.give(DestId(place), Given::Store);
+            }
+        }
+        connector
     }
 
     /// The intake of a destination, if it may be diverted.
@@ -253,29 +266,6 @@ impl<'n, 's, N: Connect, R: Wait + Copy + Drop, Q: QueueLevels> DivertConnector<
             return false;
         }
         self.is_ending(dest) || intake.is_blocked() && self.levels.is_filled(dest, LIVE_EIGHTHS)
-    }
-}
-
-impl<'n, 's, R: Net + Wait + Copy + Drop, L: Lookup + Drop, Q: QueueLevels> DivertConnector<
-    'n,
-    's,
-    StoreConnector<'n, R, L>,
-    R,
-    Q,
-> {
-    /// Takes over the connection of a destination to its store from an ended run, as [`StoreConnector::keep`] does.
-    pub(crate) fn keep(
-        &mut self,
-        dest: DestId,
-        socket: KeptSocket,
-        millis: u64,
-    ) -> Option<DivertSink<'n, StoreStream<'n>, R>> {
-        let sink = self.connector.keep(dest, socket, millis)?;
-        self.give(dest, Given::Store);
-        Some(DivertSink::Store {
-            sink,
-            intake: self.intake(dest),
-        })
     }
 }
 

@@ -17,16 +17,17 @@ pub(crate) enum DivertSink<'n, W, R: Wait + Drop> {
 
 impl<W: Write, R: Wait + Drop> Write for DivertSink<'_, W, R> {
     fn write(&mut self, buf: &[u8]) -> io::Result<usize> {
-        match self {
-            DivertSink::Store { sink, intake } => {
-                let result = sink.write(buf);
-                if let Some(intake) = intake {
-                    note_blocked(intake, &result);
-                }
-                result
-            }
-            DivertSink::Intake(sink) => sink.write(buf),
+        let result = match self {
+            DivertSink::Store { sink, .. } => sink.write(buf),
+            DivertSink::Intake(sink) => return sink.write(buf),
+        };
+        if let DivertSink::Store {
+            intake: Some(intake),
+            ..
+        } = self {
+            note_blocked(intake, &result);
         }
+        result
     }
 
     fn flush(&mut self) -> io::Result<()> {

@@ -69,7 +69,7 @@ impl<'x, R: Wait + Clock + Net + SpoolDisk + Copy + Drop, Q: QueueLevels + Drop>
             (S.record_of result.outlet) }
     {
         let LineSender {
-            connector,
+            mut connector,
             mut places,
             share,
             limit,
@@ -80,8 +80,10 @@ impl<'x, R: Wait + Clock + Net + SpoolDisk + Copy + Drop, Q: QueueLevels + Drop>
         } = self;
         let dests = share.dests;
         let orders = SpoolOrders::of(signals, orders);
-        let mut connector = DivertConnector::new(connector, *rt, levels, divert, share, orders);
-        places.take_lefts(rt, &share, &mut connector, times.millis());
+        let kept = places.take_lefts(rt, &share, &mut connector, divert, times.millis());
+        let connector = DivertConnector::new(
+            connector, *rt, levels, divert, share, orders,
+        ).with_kept(&kept);
         let SenderPlaces { spool, rests } = places;
         let connector = SpoolConnector::new(connector, *rt, spool, &share, orders);
         let connector = RestConnector::new(alloc, connector, rests, share, signals);

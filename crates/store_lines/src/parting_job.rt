@@ -54,7 +54,7 @@ impl<'x, R: Wait + Clock + Net + SpoolDisk + Copy + Drop> ThreadWork<R, ()> for 
         let PartingJob {
             gone,
             orders,
-            connector,
+            mut connector,
             mut places,
             limit,
             began,
@@ -67,8 +67,10 @@ impl<'x, R: Wait + Clock + Net + SpoolDisk + Copy + Drop> ThreadWork<R, ()> for 
         };
         let times = SystemTimes::since(rt, began);
         let orders = SpoolOrders::of(signals, orders);
-        let mut connector = DivertConnector::new(connector, *rt, NoLevels, None, share, orders);
-        places.take_lefts(rt, &share, &mut connector, times.millis());
+        let kept = places.take_lefts(rt, &share, &mut connector, None, times.millis());
+        let connector = DivertConnector::new(
+            connector, *rt, NoLevels, None, share, orders,
+        ).with_kept(&kept);
         let SenderPlaces { spool, rests } = places;
         let connector = SpoolConnector::new(
             connector, *rt, spool, &share, orders,

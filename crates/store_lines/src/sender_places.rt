@@ -1,14 +1,13 @@
 //! What a sender has for its destinations beside their connections.
 
 use crate::dest_slots::DestSlots;
-use crate::diversions::QueueLevels;
-use crate::divert_connector::DivertConnector;
+use crate::diversions::DivertTo;
 use crate::divert_sink::DivertSink;
 use crate::left_dest::LeftDest;
 use crate::rest_connector::SenderRests;
 use crate::spool_connector::{SenderSpool, SpoolSink};
 use crate::spool_left::write_lines;
-use relay_base::{DestId, NoMemory};
+use relay_base::{DestId, MOST_DESTINATIONS, NoMemory};
 use run_state::RestNotes;
 use senders::{Lookup, StoreConnector, StoreStream};
 use spool::{SpoolDisk, SpoolNotes};
@@ -65,36 +64,45 @@ impl<'n, D: SpoolDisk + Wait + Net + Copy + Drop> SenderPlaces<'n, D> {
     }
 
     /// Takes what is left for each destination of a sender out of its slot, and has it sent: the connector goes on with the
-    /// connection, at these milliseconds. It takes no memory.
-    pub(crate) fn take_lefts<'s, L: Lookup + Drop, Q: QueueLevels>(
+    /// connection, at these milliseconds. Returns which destinations have one. It takes no memory.
+    pub(crate) fn take_lefts<L: Lookup + Drop>(
         &mut self,
         rt: &D,
         share: &Share<'n>,
-        connector: &mut DivertConnector<'n, 's, StoreConnector<'n, D, L>, D, Q>,
+        connector: &mut StoreConnector<'n, D, L>,
+        to: Option<DivertTo<'n>>,
         millis: u64,
-    ) {
+    ) -> [bool; MOST_DESTINATIONS] {
+        let mut are_kept = [false; MOST_DESTINATIONS];
         for place in 0..share.dests {
             if share.has(place) {
-                let left = if self.spool.is_none() {
+                let mut left = if self.spool.is_none() {
                     share.slots.take_rests(rt, place)
                 } else {
                     share.slots.take(place)
                 };
-                self.take_left(rt, place, left, connector, millis);
+                let sink = match left.socket.take() {
+                    Some(socket) => connector.keep(DestId(place), socket, millis),
+                    None => None,
+                };
+                if let Some(is_kept) = are_kept.get_mut(place) {
+                    *is_kept = sink.is_some();
+                }
+                self.take_left(rt, place, left, diverted_sink(sink, to, place));
             }
         }
+        are_kept
     }
 
     /// Has what is left for a destination sent: its connection goes on with the earlier file, if that is not sent yet, and
     /// otherwise with the rest. A later rest is behind another one. Lines that could not be written are tried once more: of a
     /// destination that is gone nobody keeps them.
-    fn take_left<'s, L: Lookup + Drop, Q: QueueLevels>(
+    fn take_left(
         &mut self,
         rt: &D,
         place: usize,
         left: LeftDest,
-        connector: &mut DivertConnector<'n, 's, StoreConnector<'n, D, L>, D, Q>,
-        millis: u64,
+        sink: Option<DivertSink<'n, StoreStream<'n>, D>>,
     ) {
         let is_behind_file = left.is_behind_file();
         let LeftDest {
@@ -106,10 +114,8 @@ impl<'n, D: SpoolDisk + Wait + Net + Copy + Drop> SenderPlaces<'n, D> {
         } = left;
         let lost = write_lines(rt, lines, files.as_mut(), self.spool.limit());
         self.spool.note_left_out(place, lost);
-        let mut sink = match socket {
-            Some(socket) => connector.keep(DestId(place), socket, millis),
-            None => None,
-        };
+        drop(socket);
+        let mut sink = sink;
         let of_file = if is_behind_file { sink.take() } else { None };
         self.spool.begin(place, files, of_file);
         if let Some(rest) = rest {
@@ -122,5 +128,21 @@ impl<'n, D: SpoolDisk + Wait + Net + Copy + Drop> SenderPlaces<'n, D> {
             drop(later);
         }
         drop(sink);
+    }
+}
+
+/// The connection of a destination that may be diverted, if it has one.
+fn diverted_sink<'n, D: Wait + Drop>(
+    sink: Option<StoreStream<'n>>,
+    to: Option<DivertTo<'n>>,
+    place: usize,
+) -> Option<DivertSink<'n, StoreStream<'n>, D>> {
+    let intake = match to {
+        Some(to) => to.diversions.intake(place),
+        None => None,
+    };
+    match sink {
+        Some(sink) => Some(DivertSink::Store { sink, intake }),
+        None => None,
     }
 }

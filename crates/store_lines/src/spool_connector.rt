@@ -234,10 +234,7 @@ where
     /// Sends some of the lines that no file takes, of a destination of which no file is left, and connects to it for them alone.
     /// Returns whether a connection has some of them, and its store has not ended it.
     pub(crate) fn send_kept(&mut self, dest: DestId, millis: u64, lines: &mut KeptLines) -> bool {
-        let Some(state) = self.spool.dests.get_mut(dest.0) else {
-            return false;
-        };
-        match state.kept_end(millis) {
+        match self.spool.kept_end(dest.0, millis) {
             Some(PartEnd::Open) => return true,
             Some(PartEnd::Taken) | Some(PartEnd::NoEnd) => {
                 lines.pass_all();
@@ -249,28 +246,14 @@ where
             }
             None => {}
         }
-        if !state.connection.is_open() {
+        if !self.spool.has_sink(dest.0) {
             let Some(sink) = self.connector.connect(dest, millis) else {
                 return false;
             };
             lines.send_again();
-            state.connection.keep(sink);
+            self.spool.keep(dest.0, sink);
         }
-        match lines.send(&mut state.connection, &mut self.spool.piece) {
-            Turn::Over(sink) => {
-                state.end = Some(FileEnd::begin(sink));
-                true
-            }
-            Turn::Kept => true,
-            Turn::GivenUp { sink, .. } => {
-                half_close(sink);
-                false
-            }
-            Turn::Broken { .. } | Turn::Lost => {
-                drop(state.connection.take());
-                false
-            }
-        }
+        self.spool.send_kept(dest.0, lines)
     }
 
     /// Gives up the connection that has lines which no file takes.
@@ -470,6 +453,33 @@ impl<'n, W: Write + HalfClose + Drop> SenderSpool<'n, W> {
         match given {
             Some((sink, _)) => Some(sink),
             None => None,
+        }
+    }
+
+    /// What is known at these milliseconds of lines that no file takes, and a connection of a destination took, if one did.
+    fn kept_end(&mut self, place: usize, millis: u64) -> Option<PartEnd> {
+        self.dests.get_mut(place)?.kept_end(millis)
+    }
+
+    /// Sends some of the lines that no file takes to the connection of a destination. Returns whether that has some of them.
+    fn send_kept(&mut self, place: usize, lines: &mut KeptLines) -> bool {
+        let Some(state) = self.dests.get_mut(place) else {
+            return false;
+        };
+        match lines.send(&mut state.connection, &mut self.piece) {
+            Turn::Over(sink) => {
+                state.end = Some(FileEnd::begin(sink));
+                true
+            }
+            Turn::Kept => true,
+            Turn::GivenUp { sink, .. } => {
+                half_close(sink);
+                false
+            }
+            Turn::Broken { .. } | Turn::Lost => {
+                drop(state.connection.take());
+                false
+            }
         }
     }
 
