@@ -17,6 +17,7 @@ mod diversions;
 mod divert_connector;
 mod divert_sink;
 mod file_end;
+mod first_lines;
 mod gone_dests;
 mod keeper;
 mod keeper_job;

@@ -7,6 +7,7 @@ ghost use Rattle.senders.specs.Record.{SenderEnds, EndsFor};
 use crate::counted_connector::CountedConnector;
 use crate::diversions::{DivertTo, QueueLevels};
 use crate::divert_connector::DivertConnector;
+use crate::first_lines::FirstLines;
 use crate::rest_connector::RestConnector;
 use crate::sender_places::{SenderPlaces, Share};
 use crate::spool_connector::SpoolConnector;
@@ -14,7 +15,7 @@ use crate::spool_orders::SpoolOrders;
 use mio_loops::TimeSource;
 use queue_records::Supply;
 use run_state::{BeginNote, EndOrders, EndState, Signals};
-use senders::{SenderRecord, StoreConnector, send_batches};
+use senders::{Connect, HalfClose, SenderRecord, StoreConnector, send_batches};
 use spool::SpoolDisk;
 use std::alloc::Global;
 use std::net::Net;
@@ -24,7 +25,7 @@ use std::sync::Wait;
 /// What sends to a sender's share of the destinations: to each first what ended runs left for it, then the batches of a supply,
 /// and at the end what is left to its file.
 #[derive(Drop)]
-pub struct LineSender<'x, R: Wait + SpoolDisk + Drop, Q: QueueLevels + Drop> {
+pub struct LineSender<'x, R: Wait + SpoolDisk + Drop, Q> {
     /// What connects to the destinations.
     pub connector: StoreConnector<'x, R>,
     /// The places of its files, and of what ended runs left.
@@ -78,17 +79,69 @@ impl<'x, R: Wait + Clock + Net + SpoolDisk + Copy + Drop, Q: QueueLevels + Drop>
             levels,
             end,
         } = self;
-        let dests = share.dests;
         let orders = SpoolOrders::of(signals, orders);
         let kept = places.take_lefts(rt, &share, &mut connector, divert, times.millis());
         let connector = DivertConnector::new(
             connector, *rt, levels, divert, share, orders,
         ).with_kept(&kept);
         let SenderPlaces { spool, rests } = places;
-        let connector = SpoolConnector::new(connector, *rt, spool, &share, orders);
-        let connector = RestConnector::new(alloc, connector, rests, share, signals);
-        let connector = CountedConnector::new(connector, end, BeginNote::new(signals));
-        let stop = signals.senders();
-        send_batches(rt, alloc, connector, dests, limit, supply, times, stop)
+        let first = FirstLines {
+            connector,
+            spool,
+            rests,
+            share,
+            orders,
+        };
+        let own = OwnLines { supply, limit, end };
+        send_own(rt, alloc, first, own, times)
     }
+}
+
+/// A sender's own lines: those of a supply, so many datapoints in a batch at most, and where it is counted what the connections
+/// take.
+#[derive(Drop)]
+struct OwnLines<'x, S> {
+    supply: S,
+    limit: usize,
+    end: Option<&'x EndState>,
+    ghost most: { (1 ≤ limit) × (limit ≤ 10000) },
+}
+
+/// Sends what is left for each destination, and then a sender's own lines, by [`send_batches`].
+fn send_own<
+    'n,
+    's,
+    N: Connect + Drop,
+    R: Wait + SpoolDisk + Copy + Drop,
+    S: Supply + Drop,
+    T: TimeSource,
+>(
+    rt: &R,
+    alloc: Global,
+    first: FirstLines<'n, 's, N, R>,
+    own: OwnLines<'n, S>,
+    times: &T,
+) -> SenderRecord<S>
+where
+    N::Sink: HalfClose + Drop,
+    requires few { (1 ≤ first.share.dests) × (first.share.dests ≤ 64) }
+    ensures ran { SenderEnds (IsHandedBy S.record_of S.may_hand) first.entry.share.dests own.entry.limit
+        result.fault result.logs.items (S.record_of own.entry.supply) (S.record_of result.outlet) }
+    ensures fault { EndsFor result.fault result.logs.items (S.record_of own.entry.supply)
+        (S.record_of result.outlet) }
+{
+    let FirstLines {
+        connector,
+        spool,
+        rests,
+        share,
+        orders,
+    } = first;
+    let OwnLines { supply, limit, end } = own;
+    let (dests, signals) = (share.dests, orders.signals);
+    let connector = SpoolConnector::new(connector, *rt, spool, &share, orders);
+    let connector = RestConnector::new(alloc, connector, rests, share, signals);
+    let connector = CountedConnector::new(connector, end, BeginNote::new(signals));
+    let stop = signals.senders();
+    send_batches(rt, alloc, connector, dests, limit, supply, times, stop)
 }

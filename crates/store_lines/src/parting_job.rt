@@ -2,6 +2,7 @@
 
 use crate::diversions::NoLevels;
 use crate::divert_connector::DivertConnector;
+use crate::first_lines::FirstLines;
 use crate::gone_dests::GoneDests;
 use crate::rest_connector::RestConnector;
 use crate::sender_places::{SenderPlaces, Share};
@@ -11,7 +12,7 @@ use crate::spool_orders::SpoolOrders;
 use mio_loops::{SystemTimes, TimeSource};
 use relay_base::DestId;
 use run_state::{EndOrders, GoneEnd, Signals, ThreadWork};
-use senders::{Connect, StoreConnector};
+use senders::{Connect, HalfClose, StoreConnector};
 use spool::SpoolDisk;
 use std::alloc::{AllocError, Global};
 use std::net::Net;
@@ -72,16 +73,45 @@ impl<'x, R: Wait + Clock + Net + SpoolDisk + Copy + Drop> ThreadWork<R, ()> for 
             connector, *rt, NoLevels, None, share, orders,
         ).with_kept(&kept);
         let SenderPlaces { spool, rests } = places;
-        let connector = SpoolConnector::new(
-            connector, *rt, spool, &share, orders,
-        ).without_files();
-        let connector = RestConnector::new(alloc, connector, rests, share, signals);
-        send_all(rt, connector, gone, &times, signals);
+        let first = FirstLines {
+            connector,
+            spool,
+            rests,
+            share,
+            orders,
+        };
+        send_left(rt, alloc, first, gone, &times);
         if !signals.is_handing() {
             spool_all(rt, alloc, gone, limit);
         }
         gone.note_sender_over();
     }
+}
+
+/// Sends what is left to each destination that is gone.
+fn send_left<'n, 's, N: Connect + Drop, R: Wait + Clock + SpoolDisk + Copy + Drop>(
+    rt: &R,
+    alloc: Global,
+    first: FirstLines<'n, 's, N, R>,
+    gone: &GoneDests,
+    times: &SystemTimes<'_, R>,
+)
+where
+    N::Sink: HalfClose + Drop,
+{
+    let FirstLines {
+        connector,
+        spool,
+        rests,
+        share,
+        orders,
+    } = first;
+    let signals = orders.signals;
+    let connector = SpoolConnector::new(
+        connector, *rt, spool, &share, orders,
+    ).without_files();
+    let connector = RestConnector::new(alloc, connector, rests, share, signals);
+    send_all(rt, connector, gone, times, signals);
 }
 
 /// Sends to each destination that is gone, and ends the connections.
