@@ -6,8 +6,8 @@ ghosts-run_relay g a =
     record {
       table = a.next.start.blank;
       name = 1;
-      dests = a.next.start.shape.dests;
-      receivers = a.next.start.shape.receivers;
-      senders = a.next.start.shape.senders;
-      size = a.next.start.shape.size;
+      dests = a.next.start.begun.shape.dests;
+      receivers = a.next.start.begun.shape.receivers;
+      senders = a.next.start.begun.shape.senders;
+      size = a.next.start.begun.shape.size;
     }
