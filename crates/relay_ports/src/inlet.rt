@@ -5,8 +5,8 @@ ghost use Rattle.relay_ports.specs.StartFault.{is_start_fault};
 
 use crate::listeners::BoundPort;
 use crate::system_tables::SystemTables;
-use log_lines::{InputUnit, ReceiverNotes};
 use live_watch::ReceiverName;
+use log_lines::{InputUnit, ReceiverNotes};
 use mio::net::UdpSocket;
 use mio_loops::ReadinessFault;
 use reader_core::ReaderKind;

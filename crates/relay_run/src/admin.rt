@@ -230,11 +230,7 @@ fn answer_until_ended<
 }
 
 /// Answers commands by these answers until one is `stop`, or until another run is ready to follow, which is returned.
-fn answer_with<
-    B: Set,
-    R: Wait + Clock + Net + SpoolDisk + SystemTables + Threads,
-    F: ReloadSource,
->(
+fn answer_with<B: Set, R: Wait + Clock + Net + SpoolDisk + SystemTables + Threads, F: ReloadSource>(
     rt: &R,
     alloc: Global,
     relay: &Relay<B>,

@@ -127,7 +127,10 @@ fn add_noted(
 ) -> Result<(), NoMemory> {
     inlet.set_notes(notes)?;
     let watched = Arc::clone(notes)?;
-    add(logs, ReceiverLog::new(inlet.name().text(), inlet.unit(), watched))?;
+    add(
+        logs,
+        ReceiverLog::new(inlet.name().text(), inlet.unit(), watched),
+    )?;
     add(controls, inlet.control()?)?;
     match handed {
         Some(handed) => inlet.set_handed(handed),

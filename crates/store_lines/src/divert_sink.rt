@@ -24,7 +24,8 @@ impl<W: Write, R: Wait + Drop> Write for DivertSink<'_, W, R> {
         if let DivertSink::Store {
             intake: Some(intake),
             ..
-        } = self {
+        } = self
+        {
             note_blocked(intake, &result);
         }
         result

@@ -154,9 +154,7 @@ impl<'x, R: Wait + Clock + Net + SpoolDisk + Copy + Drop> ThreadWork<R, ()> for 
         places.take_files(rt, &share, &mut connector, times.millis());
         let KeeperPlaces { spool, dests, used } = places;
         let orders = SpoolOrders::of(signals, orders);
-        let connector = SpoolConnector::new(
-            connector, *rt, spool, &share, orders,
-        ).without_files();
+        let connector = SpoolConnector::new(connector, *rt, spool, &share, orders).without_files();
         let mut keeper = Keeper {
             connector,
             disk: *rt,

@@ -107,9 +107,7 @@ where
         orders,
     } = first;
     let signals = orders.signals;
-    let connector = SpoolConnector::new(
-        connector, *rt, spool, &share, orders,
-    ).without_files();
+    let connector = SpoolConnector::new(connector, *rt, spool, &share, orders).without_files();
     let connector = RestConnector::new(alloc, connector, rests, share, signals);
     send_all(rt, connector, gone, times, signals);
 }

@@ -285,7 +285,12 @@ where
             self.slots.leave_files(place, Some(files), None);
             return;
         };
-        let socket = socket_of(&mut self.connector, self.orders.signals, DestId(place), sink);
+        let socket = socket_of(
+            &mut self.connector,
+            self.orders.signals,
+            DestId(place),
+            sink,
+        );
         let notes = self.spool.notes.get(place);
         match &socket {
             Some(_) => {}
