@@ -42,8 +42,8 @@ pub(crate) struct StartedThreads<O, S> {
 }
 
 impl<O, S> StartedThreads<O, S> {
-    /// Waits until all receivers and senders have begun, and the keeper of files, if there is one. Returns whether they have: false if a thread could not be started, or
-    /// has not the memory to begin.
+    /// Waits until all receivers and senders have begun, and the keeper of files, if there is one. Returns whether they have: false
+    /// if a thread could not be started, or has not the memory to begin.
     fn wait_for_begun<R: Wait + Clock>(&self, rt: &R, signals: &Signals) -> bool {
         let count = self
             .receivers

@@ -75,9 +75,9 @@ enum FolderFault {
     NoFile,
 }
 
-/// The folder at a path, if one is given, with the size that its files may have while the relay runs, if there is one. Refuses, with a line on standard error, one that another relay uses or that takes no
-/// files: it makes one, writes to it, waits until that is on the disk, and removes it. A disk without room is no reason, since
-/// the relay can do its work: it says so.
+/// The folder at a path, if one is given, with the size that its files may have while the relay runs, if there is one. Refuses,
+/// with a line on standard error, one that another relay uses or that takes no files: it makes one, writes to it, waits until
+/// that is on the disk, and removes it. A disk without room is no reason, since the relay can do its work: it says so.
 pub fn own_folder(
     rt: &HostRuntime,
     alloc: Global,

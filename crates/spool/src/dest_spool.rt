@@ -394,8 +394,8 @@ impl DestSpool {
         }
     }
 
-    /// The store did not end its connection within so many seconds: what that took of the earlier file counts as sent, and so does the rest as soon as
-    /// the system has it. The notes say so.
+    /// The store did not end its connection within so many seconds: what that took of the earlier file counts as sent, and so does
+    /// the rest as soon as the system has it. The notes say so.
     pub fn note_no_end<D: SpoolDisk>(
         &mut self,
         disk: &D,

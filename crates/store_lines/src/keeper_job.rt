@@ -117,7 +117,7 @@ pub struct KeeperJob<'x, R: Wait + SpoolDisk + Drop> {
     pub notes: &'x [SpoolNotes],
     /// What wakes the senders.
     pub gate: &'x WakeGate,
-    /// Nobody is told anything there.
+    /// The orders of the run, which the keeper does not follow.
     pub orders: &'x EndOrders,
     /// How much the files may have.
     pub bound: SpoolBound,
