@@ -12,7 +12,7 @@ import threading
 import time
 
 from cases.spool_diversion import MANY, STEP, Diversion
-from fixtures.harness import LIMIT
+from fixtures.harness import LIMIT, Ran
 from fixtures.log import Log
 from fixtures.program import TOP
 from fixtures.spooling import ALL, numbered, text_of
@@ -201,6 +201,35 @@ class Disks(Diversion):
             self.wait_for(lambda: store.size() > 500_000, "the files go on")
             relay.lines(b"last 1 1\n")
             self.wait_for(lambda: b"last 1 1" in store.text(), "the last line has come")
+            self.are_sent()
+            self.over(relay)
+
+    def test_a_reload_on_a_disk_that_hangs(self):
+        """It is refused after ten seconds, in which the relay goes on; once the disk goes on, a reload is done, and nothing is lost."""
+        child, _ = self.fuse()
+        port, dest = self.away()
+        beside, = self.stores(1)
+        lines = numbered(15_000)
+        words = "reload", "--admin"
+        with self.diverting([dest, f"127.0.0.1:{beside.port}"], size="1073741824") as relay:
+            self.pours(relay, lines[:12_000], 1)
+            self.wait_for(lambda: self.files() != [], "files are written")
+            child.send_signal(signal.SIGSTOP)
+            relay.lines(text_of(lines[12_000:13_000]))
+            ended = []
+            reload = threading.Thread(target=lambda: ended.append(self.run_words((*words, str(relay.admin)))))
+            reload.start()
+            time.sleep(0.5)
+            self.assertEqual(ended, [])
+            relay.lines(text_of(lines[13_000:14_000]))
+            self.has_all(beside, lines[:14_000])
+            reload.join(LIMIT)
+            self.assertEqual(ended, [Ran(3, b"", b"relayd: spool: the disk does not answer within 10 seconds\n")])
+            child.send_signal(signal.SIGCONT)
+            self.assertEqual(self.run_words((*words, str(relay.admin))).status, 0)
+            relay.lines(text_of(lines[14_000:]))
+            self.has_all(beside, lines)
+            self.has_all(self.store_at(port), lines)
             self.are_sent()
             self.over(relay)
 

@@ -93,7 +93,7 @@ pub(crate) static RESTART: CommandWords = CommandWords {
 pub(crate) static RELOAD: CommandWords = CommandWords {
     name: "reload",
     full_name: "relayd reload",
-    about: "Has a running relay read its files again, without losing a datapoint",
+    about: "Has a running relay read its files again, over the same connections",
     long_help: RELOAD_HELP,
     files: &[],
     words: &[EXPLAIN, ADMIN, ADMIN_KEY],

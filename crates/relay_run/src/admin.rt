@@ -260,19 +260,130 @@ fn answer_with<B: Set, R: Wait + Clock + Net + SpoolDisk + SystemTables + Thread
             continue;
         };
         reading = None;
-        let from = ReloadFrom {
-            relay,
-            ports,
+        let reload = ReadReload {
+            read,
             folder,
             connection: begun.connection,
         };
-        let next = next_run(rt, alloc, from, read);
-        match next {
-            Ok(prepared) => {
-                keep_answer(alloc, &mut ports.admin, &prepared);
-                return Some(prepared);
-            }
-            Err(refused) => refuse(alloc, &mut ports.admin, begun.connection, refused, millis),
+        match follow_by(rt, alloc, relay, ports, watched, reload) {
+            Following::Run(prepared) => return Some(prepared),
+            Following::Nothing => {}
+            Following::Stop => return None,
+        }
+    }
+    unreachable!()
+}
+
+/// A reload whose files are read: what was read, the folder for what is not sent, if there is one, and the connection that waits for
+/// the answer.
+#[derive(Drop)]
+struct ReadReload<'x> {
+    read: Result<RunConfiguration, RefusedReload>,
+    folder: Option<SpoolFolder<'x>>,
+    connection: u64,
+}
+
+/// What follows a reload whose files are read.
+#[derive(Drop)]
+enum Following<B: Set> {
+    /// Another run.
+    Run(PreparedRun<B>),
+    /// The run goes on: the reload was refused.
+    Nothing,
+    /// The relay stops: it was told to meanwhile.
+    Stop,
+}
+
+/// Makes ready the run of a reload, and has the keeper of the files do nothing more; or answers why not.
+fn follow_by<B: Set, R: Wait + Clock + Net + SpoolDisk + SystemTables + Threads, F: ReloadSource>(
+    rt: &R,
+    alloc: Global,
+    relay: &Relay<B>,
+    ports: &mut FirstPorts,
+    watched: &mut ReportSource<'_, B, F>,
+    reload: ReadReload<'_>,
+) -> Following<B> {
+    let ReadReload {
+        read,
+        folder,
+        connection,
+    } = reload;
+    let times = SystemTimes::since(rt, relay.began);
+    let from = ReloadFrom {
+        relay,
+        ports,
+        folder,
+        connection,
+    };
+    let prepared = match next_run(rt, alloc, from, read) {
+        Ok(prepared) => prepared,
+        Err(refused) => {
+            refuse(alloc, &mut ports.admin, connection, refused, times.millis());
+            return Following::Nothing;
+        }
+    };
+    match halt_keeper(rt, alloc, relay, ports, watched) {
+        KeeperHalt::Halted => {
+            keep_answer(alloc, &mut ports.admin, &prepared);
+            Following::Run(prepared)
+        }
+        KeeperHalt::NotInTime => {
+            drop(prepared);
+            let refused = RefusedReload::disk_hangs(alloc);
+            refuse(alloc, &mut ports.admin, connection, refused, times.millis());
+            Following::Nothing
+        }
+        KeeperHalt::Stopped => {
+            drop(prepared);
+            ports.admin.refuse_reload(connection, times.millis());
+            Following::Stop
+        }
+    }
+}
+
+/// What became of the keeper of the files, which was to do nothing more before the run ends.
+#[derive(Clone, Copy)]
+enum KeeperHalt {
+    /// It does nothing, or there is none.
+    Halted,
+    /// A call to the disk has not ended in time. It goes on then.
+    NotInTime,
+    /// The relay was told to stop meanwhile. The keeper goes on.
+    Stopped,
+}
+
+/// Has the keeper of the files do nothing more before the run ends, so that nobody waits for the disk then, and answers commands by
+/// these answers until it does nothing.
+fn halt_keeper<B: Set, R: Wait + Clock + Net, F: ReloadSource>(
+    rt: &R,
+    alloc: Global,
+    relay: &Relay<B>,
+    ports: &mut FirstPorts,
+    watched: &mut ReportSource<'_, B, F>,
+) -> KeeperHalt {
+    if relay.shape.spool_size.is_none() {
+        return KeeperHalt::Halted;
+    }
+    let signals = relay.state.signals();
+    let times = SystemTimes::since(rt, relay.began);
+    let end = times.millis().saturating_add(READING_TIMEOUT_MS);
+    signals.halt_keeper(true);
+    relay.keeper_gate.wake_all();
+    for _ in rt.forever() {
+        if signals.is_keeper_halted() {
+            return KeeperHalt::Halted;
+        }
+        let millis = times.millis();
+        let is_stopped = ports
+            .admin
+            .take_turn(rt, alloc, watched, millis, READING_PAUSE_MS);
+        if is_stopped || millis >= end {
+            signals.halt_keeper(false);
+            return if is_stopped {
+                KeeperHalt::Stopped
+            } else {
+                KeeperHalt::NotInTime
+            };
         }
     }
     unreachable!()

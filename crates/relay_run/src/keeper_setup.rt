@@ -10,7 +10,7 @@ use locked_queues::Set;
 use mio_loops::Readiness;
 use relay_files::RelayFault;
 use run_state::EndState;
-use senders::StoreConnector;
+use senders::{SenderShare, StoreConnector};
 use spool::SpoolBound;
 use store_lines::{KeeperJob, KeeperPlaces, Share};
 
@@ -45,7 +45,8 @@ fn keeper_connector<'x, B: Set, R: RelayRuntime>(
     };
     let noted = relay.noted();
     let (rt, alloc, threads) = (*maker.rt, maker.alloc, maker.hosts);
-    match StoreConnector::new(rt, alloc, threads, readiness, alarm, noted.dests, 0, 1) {
+    let share = SenderShare::all(noted.dests);
+    match StoreConnector::new(rt, alloc, threads, readiness, alarm, share) {
         Ok(mut connector) => {
             connector.set_notes(noted.notes);
             Ok(connector)

@@ -9,7 +9,7 @@ use crate::runtime::RelayRuntime;
 use locked_queues::Set;
 use mio_loops::Readiness;
 use relay_files::RelayFault;
-use senders::StoreConnector;
+use senders::{SenderShare, StoreConnector};
 use store_lines::{PartingJob, SenderPlaces};
 
 /// The job of the sender to destinations that are gone, if there are such, which waits with this readiness.
@@ -26,7 +26,8 @@ pub(crate) fn parting_job<'x, B: Set, R: RelayRuntime>(
     let gone = &relay.gone;
     let (rt, alloc, threads) = (*maker.rt, maker.alloc, maker.hosts);
     let dests = gone.dests.as_slice();
-    let connector = match StoreConnector::new(rt, alloc, threads, readiness, alarm, dests, 0, 1) {
+    let share = SenderShare::all(dests);
+    let connector = match StoreConnector::new(rt, alloc, threads, readiness, alarm, share) {
         Ok(mut connector) => {
             connector.set_notes(gone.links.as_slice());
             connector

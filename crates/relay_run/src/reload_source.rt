@@ -5,7 +5,7 @@ use relay_base::NoMemory;
 use relay_files::RunConfiguration;
 use std::alloc::Global;
 
-/// How many milliseconds the files of a reload may take.
+/// How many milliseconds the files of a reload may take, and the disk of the spool.
 pub(crate) const READING_TIMEOUT_MS: u64 = 10_000;
 
 /// Who reads the files of a configuration for a reload, those that the relay began with, and has the key of the admin port. No
@@ -44,7 +44,17 @@ impl RefusedReload {
 
     /// The files have not been read in time.
     pub(crate) fn not_in_time(alloc: Global) -> RefusedReload {
-        match String::from_str(alloc, "files: not read within 10 seconds\n") {
+        RefusedReload::of_device(alloc, "files: not read within 10 seconds\n")
+    }
+
+    /// A call to the disk of the spool has not ended in time.
+    pub(crate) fn disk_hangs(alloc: Global) -> RefusedReload {
+        RefusedReload::of_device(alloc, "spool: the disk does not answer within 10 seconds\n")
+    }
+
+    /// A device does not do what is asked, for this reason.
+    fn of_device(alloc: Global, reason: &str) -> RefusedReload {
+        match String::from_str(alloc, reason) {
             Ok(text) => RefusedReload {
                 refusal: Refusal::Device,
                 text,

@@ -50,7 +50,7 @@ use store_lines::spool_slots;
 /// thread for each receiver and each sender, waits until each has the memory that it needs to begin, and writes `ready`
 /// and byte 10. Then 127.0.0.1 takes commands at the admin port, one for each connection: it answers `report` with the
 /// report, `stop` with `stopping`, `reload` once the run that follows has begun, `files` with what a reload reads, `route` with
-/// where a name goes, and all else with `unknown command`. After `stop` it joins the threads, compares the
+/// where a name goes, `watch` with what a watch has gathered, and all else with `unknown command`. After `stop` it joins the threads, compares the
 /// queues' counts and histories with what the threads recorded, and writes one line: `settled`, `sealed D`, `totals D`,
 /// `differs D N`, `no order` or `strangers`, where D is a destination's place in DESTINATIONS.
 ///

@@ -13,7 +13,7 @@ use locked_queues::{Outlet, OutletSeat, Set};
 use mio_loops::Readiness;
 use relay_base::{NoMemory, add};
 use relay_files::RelayFault;
-use senders::{Alarm, StoreConnector};
+use senders::{Alarm, SenderShare, StoreConnector};
 use std::alloc::Global;
 use std::net::Net;
 use store_lines::{DivertTo, LineSender, SenderPlaces, Share};
@@ -183,18 +183,13 @@ fn connector_of<'x, B: Set, R: RelayRuntime>(
         return Err(RelayFault::Output);
     };
     let noted = maker.relay.noted();
-    let senders = maker.relay.shape.senders;
-    let (rt, alloc, threads) = (*maker.rt, maker.alloc, maker.hosts);
-    match StoreConnector::new(
-        rt,
-        alloc,
-        threads,
-        readiness,
-        alarm,
-        noted.dests,
+    let share = SenderShare {
+        dests: noted.dests,
         sender,
-        senders,
-    ) {
+        senders: maker.relay.shape.senders,
+    };
+    let (rt, alloc, threads) = (*maker.rt, maker.alloc, maker.hosts);
+    match StoreConnector::new(rt, alloc, threads, readiness, alarm, share) {
         Ok(mut connector) => {
             connector.set_notes(noted.notes);
             Ok(connector)

@@ -19,8 +19,10 @@ pub struct Signals {
     // The connections of the senders are files from now on.
     spooling: AtomicBool,
     senders: AtomicBool,
-    // The keeper of the files is to stop.
+    // The keeper of the files is to stop; before that it is to do nothing, and does nothing.
     keeper: AtomicBool,
+    halting: AtomicBool,
+    halted: AtomicBool,
     watchers: AtomicBool,
     // The status server is to stop.
     status: AtomicBool,
@@ -45,6 +47,8 @@ impl Signals {
             spooling: AtomicBool::new(false),
             senders: AtomicBool::new(false),
             keeper: AtomicBool::new(false),
+            halting: AtomicBool::new(false),
+            halted: AtomicBool::new(false),
             watchers: AtomicBool::new(false),
             status: AtomicBool::new(false),
             handing: AtomicBool::new(false),
@@ -110,6 +114,26 @@ impl Signals {
     /// Whether the keeper of the files is to stop.
     pub fn keeper_stops(&self) -> bool {
         self.keeper.load(Ordering::SeqCst)
+    }
+
+    /// Has the keeper of the files do nothing before it is to stop, or go on as before.
+    pub fn halt_keeper(&self, is_to_halt: bool) {
+        self.halting.store(is_to_halt, Ordering::SeqCst);
+    }
+
+    /// Whether the keeper of the files is to do nothing.
+    pub fn is_keeper_to_halt(&self) -> bool {
+        self.halting.load(Ordering::SeqCst)
+    }
+
+    /// The keeper of the files does nothing, so that no call to the disk is under way, or it goes on.
+    pub fn note_keeper_halted(&self, is_halted: bool) {
+        self.halted.store(is_halted, Ordering::SeqCst);
+    }
+
+    /// Whether the keeper of the files does nothing.
+    pub fn is_keeper_halted(&self) -> bool {
+        self.halted.load(Ordering::SeqCst)
     }
 
     /// Tells the status server to stop, before the others: another run follows, and nothing is to wait for it meanwhile.
@@ -235,7 +259,7 @@ pub fn bit(number: usize) -> u64
 }
 
 /// Where a receiver or a sender notes that it has begun: it has all the memory that it needs to begin when it first
-/// waits.
+/// waits or connects.
 #[derive(Drop)]
 pub struct BeginNote<'s> {
     signals: &'s Signals,
@@ -256,7 +280,7 @@ impl<'s> BeginNote<'s> {
         self.signals.is_relay_ending()
     }
 
-    /// It waits: if for the first time, it has begun.
+    /// It waits or connects: if for the first time, it has begun.
     pub fn note_wait(&mut self) {
         if !self.is_noted {
             self.is_noted = true;

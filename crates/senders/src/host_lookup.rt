@@ -2,6 +2,7 @@
 
 use crate::lookup::{Lookup, LookupAnswer};
 use crate::resolve::Resolve;
+use crate::sender_share::SenderShare;
 use conf_text::Dest;
 use crossbeam_channel::{Receiver, Sender, bounded};
 use relay_base::{NoMemory, add};
@@ -218,18 +219,15 @@ pub struct HostLookup<R> {
 }
 
 impl<R: Threads + Wait + Resolve + Copy + Send + Drop + 'static> HostLookup<R> {
-    /// Looks up hosts of these destinations by these threads, of `n` senders those of one: sender `k` has the destinations
-    /// `k`, `k + n` and so on. Refuses if out of memory, also if a thread cannot be started.
+    /// Looks up the hosts of a sender's share by these threads. Refuses if out of memory, also if a thread cannot be started.
     pub fn new(
         rt: R,
         alloc: Global,
         threads: &HostThreads,
-        dests: &[Dest],
-        sender: usize,
-        senders: usize,
+        share: SenderShare<'_>,
     ) -> Result<HostLookup<R>, NoMemory> {
-        let mut hosts = Vec::with_capacity(alloc, dests.len())?;
-        match add_hosts(&mut hosts, rt, alloc, threads, dests, sender, senders) {
+        let mut hosts = Vec::with_capacity(alloc, share.dests.len())?;
+        match add_hosts(&mut hosts, rt, alloc, threads, share) {
             Ok(()) => Ok(HostLookup { rt, hosts }),
             Err(fault) => {
                 drop(hosts);
@@ -239,19 +237,16 @@ impl<R: Threads + Wait + Resolve + Copy + Send + Drop + 'static> HostLookup<R> {
     }
 }
 
-/// Adds a place for each of these destinations, with what asks the thread of its host if it is one of the sender's.
+/// Adds a place for each destination, with what asks the thread of its host if it is one of the sender's.
 fn add_hosts<R: Threads + Wait + Resolve + Copy + Send + Drop + 'static>(
     hosts: &mut Vec<Option<AskedHost>>,
     rt: R,
     alloc: Global,
     threads: &HostThreads,
-    dests: &[Dest],
-    sender: usize,
-    senders: usize,
+    share: SenderShare<'_>,
 ) -> Result<(), NoMemory> {
-    for (place, dest) in dests.iter().enumerate() {
-        let is_own = place.checked_rem(senders) == Some(sender);
-        let desk = if is_own {
+    for (place, dest) in share.dests.iter().enumerate() {
+        let desk = if share.has(place) {
             threads.desk_of(rt, alloc, dest)?
         } else {
             None

@@ -40,6 +40,14 @@ enum Stage {
     Ending { end_millis: u64 },
 }
 
+/// One try to connect: which destination, at which milliseconds, and where its events are noted, if they are.
+#[derive(Clone, Copy)]
+pub(crate) struct LinkTry<'n> {
+    pub(crate) dest: DestId,
+    pub(crate) millis: u64,
+    pub(crate) notes: Option<&'n DestNotes>,
+}
+
 /// The way to a destination's connection: the host's addresses, as far as they are known, the state of the try, and
 /// the connection.
 ///
@@ -135,37 +143,35 @@ impl Link {
         net: &N,
         readiness: &Readiness,
         lookup: &mut L,
-        dest: DestId,
-        millis: u64,
-        notes: Option<&DestNotes>,
+        tried: LinkTry<'_>,
     ) -> Option<Arc<Wire>> {
-        self.end_last(millis);
+        self.end_last(tried.millis);
         let stage = match mem::replace(&mut self.stage, Stage::Idle) {
-            Stage::Idle if millis < self.next_try_millis => return None,
+            Stage::Idle if tried.millis < self.next_try_millis => return None,
             Stage::Idle => {
-                self.look_up(lookup, dest, millis, notes);
-                self.begin(net, readiness, dest, millis, notes)
+                self.look_up(lookup, tried);
+                self.begin(net, readiness, tried)
             }
-            Stage::LookingUp => match self.answer(lookup, dest, millis, notes) {
+            Stage::LookingUp => match self.answer(lookup, tried) {
                 LookupAnswer::UnderWay => Stage::LookingUp,
                 LookupAnswer::Found(found) => {
                     self.addresses.note_found(found);
-                    self.begin(net, readiness, dest, millis, notes)
+                    self.begin(net, readiness, tried)
                 }
                 LookupAnswer::None | LookupAnswer::NotFound => {
-                    self.fail(notes, Why::NotFound, None)
+                    self.fail(tried.notes, Why::NotFound, None)
                 }
             },
             Stage::Connecting(attempt) => {
                 let address = attempt.address();
-                match attempt.go_on(millis) {
+                match attempt.go_on(tried.millis) {
                     Progress::Connected(socket) => {
                         self.enter(Stage::Connected);
                         self.addresses.note_connected();
                         return self.connection.open(socket, false);
                     }
                     Progress::UnderWay(attempt) => Stage::Connecting(attempt),
-                    Progress::Failed(why) => self.fail(notes, why, Some(address)),
+                    Progress::Failed(why) => self.fail(tried.notes, why, Some(address)),
                 }
             }
             stage => stage,
@@ -223,60 +229,41 @@ impl Link {
     }
 
     /// Keeps the last answer, and begins a look-up unless one is under way or the host is an address.
-    fn look_up<L: Lookup>(
-        &mut self,
-        lookup: &mut L,
-        dest: DestId,
-        millis: u64,
-        notes: Option<&DestNotes>,
-    ) {
+    fn look_up<L: Lookup>(&mut self, lookup: &mut L, tried: LinkTry<'_>) {
         if self.is_address {
             return;
         }
-        match self.answer(lookup, dest, millis, notes) {
+        match self.answer(lookup, tried) {
             LookupAnswer::UnderWay => return,
             LookupAnswer::Found(found) => self.addresses.note_found(found),
             LookupAnswer::None | LookupAnswer::NotFound => {}
         }
-        self.asked_millis = millis;
-        lookup.begin(dest.0);
+        self.asked_millis = tried.millis;
+        lookup.begin(tried.dest.0);
     }
 
     /// The state of the last look-up. If events are noted, it notes whether one has been under way for more than a second.
-    fn answer<L: Lookup>(
-        &self,
-        lookup: &mut L,
-        dest: DestId,
-        millis: u64,
-        notes: Option<&DestNotes>,
-    ) -> LookupAnswer {
-        let answer = lookup.answer(dest.0);
-        if let Some(notes) = notes {
+    fn answer<L: Lookup>(&self, lookup: &mut L, tried: LinkTry<'_>) -> LookupAnswer {
+        let answer = lookup.answer(tried.dest.0);
+        if let Some(notes) = tried.notes {
             let is_under_way = matches!(answer, LookupAnswer::UnderWay);
             notes.note_lookup(
-                is_under_way && millis.saturating_sub(self.asked_millis) > LONG_LOOKUP_MS,
+                is_under_way && tried.millis.saturating_sub(self.asked_millis) > LONG_LOOKUP_MS,
             );
         }
         answer
     }
 
     /// Begins to connect to the address whose turn it is, if any is known; otherwise waits for one.
-    fn begin<N: Net>(
-        &mut self,
-        net: &N,
-        readiness: &Readiness,
-        dest: DestId,
-        millis: u64,
-        notes: Option<&DestNotes>,
-    ) -> Stage {
-        self.next_try_millis = millis.saturating_add(BETWEEN_TRIES_MS);
+    fn begin<N: Net>(&mut self, net: &N, readiness: &Readiness, tried: LinkTry<'_>) -> Stage {
+        self.next_try_millis = tried.millis.saturating_add(BETWEEN_TRIES_MS);
         let Some(address) = self.addresses.next() else {
             return Stage::LookingUp;
         };
         let address = SocketAddr::new(address, self.port);
-        match Attempt::begin(net, readiness, dest, address, millis) {
+        match Attempt::begin(net, readiness, tried.dest, address, tried.millis) {
             Ok(attempt) => Stage::Connecting(attempt),
-            Err(why) => self.fail(notes, why, Some(address)),
+            Err(why) => self.fail(tried.notes, why, Some(address)),
         }
     }
 

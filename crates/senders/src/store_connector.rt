@@ -4,12 +4,12 @@ use crate::alarm::Alarm;
 use crate::connect::Connect;
 use crate::host_lookup::{HostLookup, HostThreads};
 use crate::kept_socket::KeptSocket;
-use crate::link::Link;
+use crate::link::{Link, LinkTry};
 use crate::lookup::Lookup;
 use crate::resolve::Resolve;
+use crate::sender_share::SenderShare;
 use crate::store_stream::StoreStream;
 use crate::wire::Wire;
-use conf_text::Dest;
 use log_lines::{DestNotes, Why};
 use mio::net::TcpStream;
 use mio_loops::{Readiness, ReadinessFault, Token};
@@ -19,8 +19,7 @@ use std::net::Net;
 use std::sync::{Arc, Wait};
 use std::thread::Threads;
 
-/// Connects to the destinations of one sender: of `n` senders, sender `k` has the destinations `k`, `k + n`
-/// and so on. The others are never connected.
+/// Connects to the destinations of one sender's share. The others are never connected.
 ///
 /// The first try of a destination begins at once, and each later one a second after the one before it began,
 /// or later. Of the addresses of a host each try takes the next one. A connection that is not made after ten seconds is
@@ -41,7 +40,7 @@ pub struct StoreConnector<'g, R, L = HostLookup<R>> {
 }
 
 impl<'g, R: Threads + Wait + Net + Resolve + Copy + Send + Drop + 'static> StoreConnector<'g, R> {
-    /// The connector of a sender to its share of these destinations, by this readiness, whose waits the
+    /// The connector of a sender to its share of destinations, by this readiness, whose waits the
     /// alarm ends. Hosts are looked up by these threads. Refuses if out of memory (`NoMemory`).
     pub fn new(
         rt: R,
@@ -49,15 +48,13 @@ impl<'g, R: Threads + Wait + Net + Resolve + Copy + Send + Drop + 'static> Store
         threads: &HostThreads,
         readiness: Readiness,
         alarm: &'g Alarm,
-        dests: &[Dest],
-        sender: usize,
-        senders: usize,
+        share: SenderShare<'_>,
     ) -> Result<StoreConnector<'g, R>, ReadinessFault> {
-        let Ok(lookup) = HostLookup::new(rt, alloc, threads, dests, sender, senders) else {
+        let Ok(lookup) = HostLookup::new(rt, alloc, threads, share) else {
             drop(readiness);
             return Err(ReadinessFault::NoMemory);
         };
-        StoreConnector::with_lookup(rt, alloc, readiness, alarm, dests, sender, senders, lookup)
+        StoreConnector::with_lookup(rt, alloc, readiness, alarm, share, lookup)
     }
 }
 
@@ -68,12 +65,10 @@ impl<'g, R: Net + Drop, L: Lookup + Drop> StoreConnector<'g, R, L> {
         alloc: Global,
         readiness: Readiness,
         alarm: &'g Alarm,
-        dests: &[Dest],
-        sender: usize,
-        senders: usize,
+        share: SenderShare<'_>,
         lookup: L,
     ) -> Result<StoreConnector<'g, R, L>, ReadinessFault> {
-        let Ok((links, ready)) = tables_of(alloc, dests, sender, senders) else {
+        let Ok((links, ready)) = tables_of(alloc, share) else {
             drop(lookup);
             drop(readiness);
             return Err(ReadinessFault::NoMemory);
@@ -168,25 +163,18 @@ impl<'g, R: Net + Drop, L: Lookup + Drop> StoreConnector<'g, R, L> {
 /// The links of a sender's destinations, by destination, and an empty list with room for each destination.
 fn tables_of(
     alloc: Global,
-    dests: &[Dest],
-    sender: usize,
-    senders: usize,
+    share: SenderShare<'_>,
 ) -> Result<(Vec<Option<Link>>, Vec<DestId>), NoMemory> {
-    let ready = Vec::with_capacity(alloc, dests.len())?;
-    let links = links_of(alloc, dests, sender, senders)?;
+    let ready = Vec::with_capacity(alloc, share.dests.len())?;
+    let links = links_of(alloc, share)?;
     Ok((links, ready))
 }
 
 /// The links of a sender's destinations, by destination.
-fn links_of(
-    alloc: Global,
-    dests: &[Dest],
-    sender: usize,
-    senders: usize,
-) -> Result<Vec<Option<Link>>, NoMemory> {
-    let mut links = Vec::with_capacity(alloc, dests.len())?;
-    for (place, dest) in dests.iter().enumerate() {
-        let link = if place.checked_rem(senders) == Some(sender) {
+fn links_of(alloc: Global, share: SenderShare<'_>) -> Result<Vec<Option<Link>>, NoMemory> {
+    let mut links = Vec::with_capacity(alloc, share.dests.len())?;
+    for (place, dest) in share.dests.iter().enumerate() {
+        let link = if share.has(place) {
             Some(Link::new(alloc, dest)?)
         } else {
             None
@@ -280,14 +268,12 @@ impl<'g, R: Net + Drop, L: Lookup + Drop> Connect for StoreConnector<'g, R, L> {
         if let Some(notes) = notes {
             notes.note_down(millis);
         }
-        let wire = link.connect(
-            &self.rt,
-            &self.readiness,
-            &mut self.lookup,
+        let tried = LinkTry {
             dest,
             millis,
             notes,
-        )?;
+        };
+        let wire = link.connect(&self.rt, &self.readiness, &mut self.lookup, tried)?;
         Some(StoreStream::new(wire, millis, notes))
     }
 

@@ -5,6 +5,10 @@ use locked_queues::{Gate, GatePoint};
 use relay_base::DestId;
 use std::thread;
 
+/// How often a thread gives its processor away at most for a sender that waits for one: a tenth of a millisecond if no other thread
+/// wants it.
+const MOST_YIELDS: usize = 200;
+
 /// A gate for the doors and outlets of queues: an offer to a destination ends the wait of its sender, if the
 /// sender is about to wait. Of `n` senders, sender `k` has the destinations `k`, `k + n` and so on.
 ///
@@ -56,11 +60,17 @@ impl Gate for WakeGate {
         }
     }
 
-    /// Ends the wait of the sender, and gives the processor of this thread away once: the sender may wait for one.
+    /// Ends the wait of the sender, and gives the processor of this thread away, until the sender goes on: it may wait for one.
     fn give_way(&self, dest: DestId) {
-        if let Some(alarm) = self.alarm_of(dest) {
-            alarm.hurry();
+        let Some(alarm) = self.alarm_of(dest) else {
+            return;
+        };
+        alarm.hurry();
+        for _ in 0..MOST_YIELDS {
             thread::yield_now();
+            if !alarm.is_late() {
+                break;
+            }
         }
     }
 }

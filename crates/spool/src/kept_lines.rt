@@ -68,6 +68,11 @@ impl KeptLines {
         is_kept
     }
 
+    /// Makes room for so many bytes behind those that are left. Returns whether there is memory for that.
+    pub fn make_room(&mut self, count: usize) -> bool {
+        self.lines.reserve(count).is_ok()
+    }
+
     /// How many bytes are left.
     pub fn len(&self) -> usize {
         self.lines.len().saturating_sub(self.passed)
@@ -123,6 +128,13 @@ impl KeptLines {
 
     /// The connection is lost: all that is left goes out again.
     pub fn send_again(&mut self) {
+        self.sent = Cursor::new();
+    }
+
+    /// What the connection took of the lines counts as sent, up to the last line that it took whole.
+    pub fn pass_taken(&mut self) {
+        let taken = usize::try_from(self.sent.start()).unwrap_or(usize::MAX);
+        self.pass(taken);
         self.sent = Cursor::new();
     }
 

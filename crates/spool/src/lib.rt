@@ -49,6 +49,7 @@ pub use file_sink::FileSink;
 pub use held_text::{HeldText, end_of_lines};
 pub use intake::{INTAKE_ROOM, Intake};
 pub use kept_lines::KeptLines;
+pub use line_count::lines_in;
 pub use open_folder::{FolderAt, OpenFault};
 pub use pieces::{SendOutcome, send_piece};
 pub use spool_disk::SpoolDisk;

@@ -31,7 +31,7 @@ pub fn open_all<D: SpoolDisk>(
 }
 
 /// The files of those of these destinations that are not known, as [`open_all`] opens those of all: the files of the others are
-/// open. What is of no destination is not named again.
+/// open. What is of no destination is not named again. It does not reach the disk if all are known.
 pub fn open_others<D: SpoolDisk>(
     disk: &D,
     alloc: Global,
@@ -39,7 +39,25 @@ pub fn open_others<D: SpoolDisk>(
     dests: &[Dest],
     are_known: &[bool],
 ) -> Result<SpoolFiles, OpenFault> {
-    open_each(disk, alloc, folder, dests, are_known, String::new(alloc))
+    let news = String::new(alloc);
+    if are_all_known(dests, are_known) {
+        let mut none = Vec::new(alloc);
+        for _ in dests {
+            add(&mut none, None)?;
+        }
+        return Ok(SpoolFiles { dests: none, news });
+    }
+    open_each(disk, alloc, folder, dests, are_known, news)
+}
+
+/// Whether each of these destinations is known.
+fn are_all_known(dests: &[Dest], are_known: &[bool]) -> bool {
+    for place in 0..dests.len() {
+        if !are_known.get(place).copied().unwrap_or(false) {
+            return false;
+        }
+    }
+    true
 }
 
 /// The files of those of these destinations that are not known, with these news before others.

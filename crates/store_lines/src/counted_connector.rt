@@ -1,18 +1,17 @@
 //! Connections that count the datapoints that they took.
-ghost use Rattle.std.specs.Prelude.{◌≡◌, ◌==◌, IfErr, count_by};
-ghost use Rattle.relay_base.specs.Ascii.{newline};
+ghost use Rattle.std.specs.Prelude.{◌≡◌, IfErr};
 
-use memchr::memchr_iter;
 use mio_loops::{LeftWriter, ReadinessFault};
 use relay_base::{DestId, MOST_DESTINATIONS};
 use run_state::{BeginNote, EndState};
 use senders::{Connect, KeptSocket};
+use spool::lines_in;
 use std::io;
 use std::io::Write;
 use std::sync::atomic::{AtomicU64, Ordering};
 
-/// Connects through another connector, and notes the first wait. Unless what is queued at the end is lost, it counts for each
-/// destination the datapoints that its connections took to the last byte.
+/// Connects through another connector, and notes when the sender first connects or waits: it has begun then. Unless what is
+/// queued at the end is lost, it counts for each destination the datapoints that its connections took to the last byte.
 ///
 /// Once the receivers stop, a wait then reports all destinations as ready. The system reports a connection only when a third
 /// of its buffer is free, and a drain is to see each datapoint that a slow store takes.
@@ -25,7 +24,7 @@ pub(crate) struct CountedConnector<'c, 's, N> {
 }
 
 impl<'c, 's, N: Connect> CountedConnector<'c, 's, N> {
-    /// Connects through `connector`, counts for this end, if there is one, and notes the first wait here.
+    /// Connects through `connector`, counts for this end, if there is one, and notes here that the sender has begun.
     pub(crate) fn new(
         connector: N,
         end: Option<&'c EndState>,
@@ -75,6 +74,8 @@ impl<'c, 's, N: Connect> Connect for CountedConnector<'c, 's, N> {
     }
 
     fn connect(&mut self, dest: DestId, millis: u64) -> Option<CountedSink<'c, N::Sink>> {
+        // It may wait for a disk, and nobody is to wait for it meanwhile.
+        self.note.note_wait();
         let sink = self.connector.connect(dest, millis)?;
         Some(CountedSink {
             sink,
@@ -154,11 +155,4 @@ impl<W: Write> Write for CountedSink<'_, W> {
     fn flush(&mut self) -> io::Result<()> {
         self.sink.flush()
     }
-}
-
-/// How many bytes 10 a text has.
-fn lines_in(bytes: &[u8]) -> u64
-    ensures { result ≡ count_by (λ b. b == newline) bytes.now }
-{
-    memchr_iter(b'\n', bytes).count() as u64
 }

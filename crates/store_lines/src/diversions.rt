@@ -59,7 +59,7 @@ fn begin_one(slot: &mut Option<Intake>, left: &LeftDest, notes: &SpoolNotes) {
         return;
     }
     if let Some(intake) = slot {
-        if left.is_behind_file() || left.lines.is_some() {
+        if left.is_behind_keeper() {
             intake.begin_behind();
         }
     }

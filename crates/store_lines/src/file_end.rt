@@ -52,6 +52,13 @@ impl<W: HalfClose> FileEnd<W> {
     }
 }
 
+impl<W: HalfClose> FileEnd<W> {
+    /// Whether the connection is lost.
+    pub(crate) fn is_lost(&self) -> bool {
+        matches!(self.sink.store_end(), StoreEnd::Lost)
+    }
+}
+
 impl<W> FileEnd<W> {
     /// The connection.
     pub(crate) fn into_sink(self) -> W {

@@ -6,10 +6,10 @@ use relay_base::DestId;
 use run_state::Signals;
 use senders::{Connect, HalfClose, WakeGate};
 use spool::{Intake, KeptLines, SegmentLimits, SpoolBound, SpoolDisk, SpoolNotes, SpoolStall};
-use std::io;
 use std::io::ErrorKind;
 use std::sync::Wait;
 use std::sync::atomic::{AtomicU64, Ordering};
+use std::{io, mem};
 
 /// After how many milliseconds lines that could not be written are tried again.
 const RETRY_MS: u64 = 1_000;
@@ -46,6 +46,8 @@ pub(crate) struct KeptDest {
     // Whether the last try to write failed, and whether a connection has some of the lines.
     is_stalled: bool,
     is_sending: bool,
+    // Whether the lines could not be written while files were to be sent: once these have gone there may be room.
+    is_behind_files: bool,
     retry_at: u64,
     close_at: u64,
     busy_since: Option<u64>,
@@ -59,6 +61,7 @@ impl KeptDest {
             has_written: false,
             is_stalled: false,
             is_sending: false,
+            is_behind_files: false,
             retry_at: 0,
             close_at: 0,
             busy_since: None,
@@ -236,7 +239,7 @@ where
     }
 
     /// Sends some of the files of a destination, once its store has ended the connection that the sender had; or, once none is left
-    /// and the disk takes no more, of the lines that could not be written.
+    /// and the disk takes no more all the same, of the lines that could not be written.
     fn send(&mut self, place: usize, millis: u64) {
         let (Some(intake), Some(dest)) = (self.diversions.intake(place), self.dests.get_mut(place))
         else {
@@ -247,7 +250,12 @@ where
         }
         let is_kept = dest.is_stalled && !dest.lines.are_none();
         if !is_kept || self.connector.has_files(DestId(place)) {
+            dest.is_behind_files = is_kept;
             self.connector.send_files(DestId(place), millis);
+            return;
+        }
+        if mem::replace(&mut dest.is_behind_files, false) {
+            dest.retry_at = millis;
             return;
         }
         dest.is_sending = self
@@ -337,17 +345,30 @@ where
         in_files.saturating_add(in_hand).saturating_add(in_intake)
     }
 
-    /// Gives up the connection that has lines of a destination which could not be written, if one has: they are written, or go
-    /// out again.
+    /// Gives up the connection that has lines of a destination which could not be written, if one has. What it took counts as sent
+    /// unless it is lost; the others are written, or go out again.
     pub(crate) fn leave_kept(&mut self, place: usize) {
         let Some(dest) = self.dests.get_mut(place) else {
             return;
         };
         if dest.is_sending {
             dest.is_sending = false;
-            dest.lines.send_again();
-            self.connector.leave_kept(DestId(place));
+            if self.connector.leave_kept(DestId(place)) {
+                dest.lines.send_again();
+            } else {
+                dest.lines.pass_taken();
+            }
         }
+    }
+
+    /// Whether there is memory for what waits in the intake of a destination behind the lines that are not written.
+    pub(crate) fn has_room_for_intake(&mut self, place: usize) -> bool {
+        let (Some(intake), Some(dest)) = (self.diversions.intake(place), self.dests.get_mut(place))
+        else {
+            return false;
+        };
+        let (_is_open, waiting) = intake.state(&self.disk);
+        dest.lines.make_room(waiting)
     }
 
     /// Writes the last lines of a destination, once its sender has ended, as far as they can be written.

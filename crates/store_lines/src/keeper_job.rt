@@ -24,6 +24,9 @@ const LONGEST_END_MS: u64 = 1_000;
 /// For how many milliseconds a wait lasts at most meanwhile, and after how many one that failed is tried again.
 const MOST_WAIT_MS: u64 = 10;
 
+/// After how many milliseconds a keeper that does nothing looks again whether it is to go on, or to stop.
+const HALT_MS: u64 = 1;
+
 /// What the keeper of files has for each destination.
 #[derive(Drop)]
 pub struct KeeperPlaces<'n> {
@@ -180,7 +183,7 @@ impl<'x, R: Wait + Clock + Net + SpoolDisk + Copy + Drop> ThreadWork<R, ()> for 
     }
 }
 
-/// Keeps and sends files until the senders have ended.
+/// Keeps and sends files until the senders have ended. While it is to do nothing it makes no call to the disk.
 fn keep_until_stopped<'n, 's, R: Wait + Clock + SpoolDisk + Copy + Drop, N: Connect + Drop>(
     rt: &R,
     keeper: &mut Keeper<'n, 's, N, R>,
@@ -193,6 +196,12 @@ where
         if keeper.signals.keeper_stops() {
             return;
         }
+        let is_halted = keeper.signals.is_keeper_to_halt();
+        keeper.signals.note_keeper_halted(is_halted);
+        if is_halted {
+            rt.sleep(Duration::from_millis(HALT_MS));
+            continue;
+        }
         keeper.connector.about_to_wait();
         let pause = keeper.take_turn(times.millis());
         if keeper.connector.wait(pause).is_err() {
@@ -202,8 +211,8 @@ where
     unreachable!()
 }
 
-/// Writes what is left, and ends the connections; not if another run follows, which goes on with them. Waits then until all files
-/// are on the disk.
+/// Writes what is left, ends the connections, and waits until all files are on the disk; not if another run follows, which goes on
+/// with all of these, and writes what is left.
 fn end_files<'n, 's, R: Wait + Clock + SpoolDisk + Copy + Drop, N: Connect + Drop>(
     rt: &R,
     alloc: Global,
@@ -217,7 +226,9 @@ where
     let is_handing = keeper.signals.is_handing();
     for place in 0..keeper.dests.len() {
         keeper.leave_kept(place);
-        keeper.write_last(place, times.millis());
+        if !is_handing || !keeper.has_room_for_intake(place) {
+            keeper.write_last(place, times.millis());
+        }
         leave_lines(rt, alloc, keeper, place, share, is_handing);
     }
     if is_handing {
@@ -229,7 +240,7 @@ where
     }
 }
 
-/// Leaves the lines of a destination that could not be written to the next run, if one follows; otherwise they are lost.
+/// Leaves the lines of a destination that are not written to the next run, if one follows; otherwise they are lost.
 fn leave_lines<'n, 's, R: Wait + SpoolDisk + Copy + Drop, N: Connect + Drop>(
     rt: &R,
     alloc: Global,

@@ -22,7 +22,7 @@ pub struct LeftDest {
     pub files: Option<DestSpool>,
     /// The connection's socket.
     pub socket: Option<KeptSocket>,
-    /// Lines that were to go to the files of a run that diverts destinations, and could not be written.
+    /// Lines that were to go to the files of a run that diverts destinations, and are not written.
     pub lines: Option<KeptLines>,
 }
 
@@ -89,7 +89,7 @@ impl LeftDest {
 
     /// Takes the files, with the lines that are behind them, and the socket that the earlier one goes out on, if there is one.
     pub(crate) fn take_files(&mut self) -> LeftDest {
-        let socket = if self.is_behind_file() {
+        let socket = if self.is_behind_keeper() {
             self.socket.take()
         } else {
             None
@@ -105,7 +105,7 @@ impl LeftDest {
 
     /// Takes all but the files, the lines that are behind them, and the socket that the earlier one goes out on, if there is one.
     pub(crate) fn take_rests(&mut self) -> LeftDest {
-        let socket = if self.is_behind_file() {
+        let socket = if self.is_behind_keeper() {
             None
         } else {
             self.socket.take()
@@ -147,6 +147,11 @@ impl LeftDest {
             Some(files) => files.has_names(),
             None => false,
         }
+    }
+
+    /// Whether the keeper of the files has something of the destination to send: the connection is for that then.
+    pub(crate) fn is_behind_keeper(&self) -> bool {
+        self.is_behind_file() || self.lines.is_some()
     }
 
     /// Whether the earlier file is not sent yet.

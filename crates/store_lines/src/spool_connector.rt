@@ -256,12 +256,11 @@ where
         self.spool.send_kept(dest.0, lines)
     }
 
-    /// Gives up the connection that has lines which no file takes.
-    pub(crate) fn leave_kept(&mut self, dest: DestId) {
-        if let Some(state) = self.spool.dests.get_mut(dest.0) {
-            drop(state.end.take());
-        }
+    /// Gives up the connection that has lines which no file takes. Returns whether it is lost.
+    pub(crate) fn leave_kept(&mut self, dest: DestId) -> bool {
+        let is_lost = self.spool.has_lost_kept(dest.0);
         self.spool.leave_connection(dest.0);
+        is_lost
     }
 
     /// Whether the store of a destination takes more of the earlier file at once, or is about to end the connection that took a
@@ -464,6 +463,20 @@ impl<'n, W: Write + HalfClose + Drop> SenderSpool<'n, W> {
     /// What is known at these milliseconds of lines that no file takes, and a connection of a destination took, if one did.
     fn kept_end(&mut self, place: usize, millis: u64) -> Option<PartEnd> {
         self.dests.get_mut(place)?.kept_end(millis)
+    }
+
+    /// Gives up the connection of a destination that took all lines which no file takes, if there is one. Returns whether it is
+    /// lost.
+    fn has_lost_kept(&mut self, place: usize) -> bool {
+        let Some(state) = self.dests.get_mut(place) else {
+            return false;
+        };
+        let Some(end) = state.end.take() else {
+            return false;
+        };
+        let is_lost = end.is_lost();
+        drop(end);
+        is_lost
     }
 
     /// Sends some of the lines that no file takes to the connection of a destination. Returns whether that has some of them.

@@ -14,7 +14,9 @@ use mio_loops::{Readiness, SystemTimes};
 use reader_core::ReaderKind;
 use receivers::{ReceiverRecord, StreamListener, StreamPort, receive_streams};
 use relay_base::DestId;
-use senders::{Alarm, HostThreads, Resolve, SenderRecord, StoreConnector, send_batches};
+use senders::{
+    Alarm, HostThreads, Resolve, SenderRecord, SenderShare, StoreConnector, send_batches,
+};
 use std::alloc::Global;
 use std::io::Write;
 use std::net::{Net, TcpListener, TcpStream};
@@ -186,9 +188,7 @@ fn connector_of<'g, R: Threads + Wait + Clock + Net + Resolve + Copy + Send + Dr
         &HostThreads::new(alloc),
         readiness?,
         alarm,
-        dests,
-        0,
-        1,
+        SenderShare::all(dests),
     )
     .ok()
 }
