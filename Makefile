@@ -108,6 +108,7 @@ bench: $(of_program)
 	@python3 bench/status.py $(driven)
 	@python3 bench/receivers.py $(driven)
 	@python3 bench/bursts.py $(driven)
+	@python3 bench/spooling.py $(driven)
 	@python3 bench/restarts.py $(driven)
 	@python3 bench/reloads.py $(driven)
 

@@ -23,7 +23,7 @@ complete -c relayd -n __relayd_command -a report -d 'Prints the counts of a runn
 complete -c relayd -n __relayd_command -a watch -d 'Shows datapoints as they pass through a running relay, or counts them by their names'
 complete -c relayd -n __relayd_command -a stop -d 'Stops a running relay'
 complete -c relayd -n __relayd_command -a restart -d 'Checks the files of a running relay, and stops it if they have no fault'
-complete -c relayd -n __relayd_command -a reload -d 'Has a running relay read its files again, without losing a datapoint'
+complete -c relayd -n __relayd_command -a reload -d 'Has a running relay read its files again, over the same connections'
 complete -c relayd -n __relayd_command -a help -d 'Prints the help of a command'
 complete -c relayd -n '__relayd_command help' -a 'pass check route replay run report watch stop restart reload help'
 

@@ -48,7 +48,8 @@ class Faults(unittest.TestCase):
                         self.assertRegex(answered, rf"\b{variant}\b", fault)
 
     def test_out_of_memory_is_answered(self):
-        """The rows of faults that say it are of those that `refusals.py` refuses each growth, and compares then."""
+        """The rows of faults that say it are of those of which `refusals.py` refuses each growth, and compares what they answer
+        then; or sees that they have none."""
         for fault, rows in FAULTS.items():
             if NO_MEMORY in variants(fault):
                 with self.subTest():

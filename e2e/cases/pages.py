@@ -22,6 +22,8 @@ OPTION_OF = re.compile(rf"`(--[a-z]+(?:-[a-z]+)*)[^`]*` of ({NAMED}(?:(?:, | and
 CODE_NAME = re.compile(r"`((?:[A-Z]\w+|[a-z]+_\w+)(?:::\w+)*)`")
 DEFINED = re.compile(r"\b(?:fn|struct|enum|trait|type) (\w+)")
 LOGIC = re.compile(r"rattle-kit-\w+ logic (\w+)")
+THREAD = re.compile(r"(?:fn name\(&self, alloc: Global\) -> Result<String, AllocError> \{\s*(?:String::from_str\(|format!\(in )"
+                    r"|let name = String::from_str\()alloc[,;] \"([^\"]+)\"")
 MANUAL = os.path.join("packaging", "relayd.1")
 HISTORY = "CHANGELOG.md"
 CASE = re.compile(r"`(\w+)\.(\w+)\.(test_\w+)`")
@@ -172,6 +174,15 @@ class UpToDate(harness.Suite):
         wrong, steps = walks.untrue(text_of(os.path.join("docs", "ARCHITECTURE.md")))
         self.assertEqual(wrong, [])
         self.assertGreater(steps, 60)
+
+    def test_threads(self):
+        """RUNNING has a row for each thread to which the program gives a name of its own."""
+        text = text_of(os.path.join("docs", "RUNNING.md"))
+        rows = re.findall(r"(?m)^\| (`[^|]*) \|", text[text.index("## The threads"):text.index("### Several receivers")])
+        shown = {name.replace(" 0", " {}") for row in rows for name in re.findall(r"`([^`]+)`", row)}
+        named = {name for path in crate_sources() for name in THREAD.findall(text_of(path))}
+        self.assertGreater(len(named), 6)
+        self.assertEqual(sorted(named - shown), [])
 
     def test_synopses_of_pages(self):
         known, seen = options(), 0

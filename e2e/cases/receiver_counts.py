@@ -68,6 +68,6 @@ class ReceiverCounts(status.Serving):
             self.wait_for(lambda: in_json() == wanted, f"JSON has all numbers {wanted}")
             shown = {it["receiver"]: tuple(it[field] for field in FIELDS) for it in self.json(relay)["receivers"]}
             for name, counts in shown.items():
-                self.assertEqual(self.shown_in_metrics(relay, name), counts, name)
-                self.assertEqual(self.shown_on_the_page(relay, name), counts, name)
+                self.wait_for(lambda name=name, counts=counts: self.shown_in_metrics(relay, name) == counts, f"metrics of {name}")
+                self.wait_for(lambda name=name, counts=counts: self.shown_on_the_page(relay, name) == counts, f"page of {name}")
             self.settles(relay)

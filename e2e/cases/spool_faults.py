@@ -10,8 +10,9 @@ import signal
 import subprocess
 import unittest
 
-from fixtures.harness import LIMIT, Ran
+from fixtures.harness import LIMIT, Ran, Settings
 from fixtures.log import Log
+from fixtures.refused import compiled
 from fixtures.spooling import ALL, LONG, WithSpool, numbered, text_of
 from fixtures.stores import Store, free_ports
 
@@ -222,46 +223,90 @@ class OpeningFiles(WithSpool):
                 self.assertEqual([name for name in self.files() if "~aside" not in name], [])
 
 
+@unittest.skipUnless(shutil.which("strace"), "strace is missing")
 class Killed(WithSpool):
-    """A relay is killed while it writes its files at a stop."""
+    """A relay is killed while it works on its files."""
 
-    @unittest.skipUnless(shutil.which("strace"), "strace is not there")
     def test_at_each_call(self):
-        """Each line of file and queue comes, and at most those of one piece twice."""
+        """At a stop: what the file has then comes, in order, each line once, and none that is cut."""
+        ends = set()
         for call, number in CALLS:
             for earlier in ([], numbered(COUNT, b"old")):
                 with self.subTest(call=call, number=number, earlier=bool(earlier)):
-                    self.killed_at(call, number, earlier, b"")
-        self.killed_at("rename", 2, numbered(COUNT, b"old"), b"cut 1 17")
+                    ends.add((call, self.killed_at(call, number, earlier)))
+        for call in ("write", "fsync"):
+            self.assertIn((call, True), ends, "a relay was killed there")
 
-    def killed_at(self, call, number, earlier, cut):
-        """A stop is killed before this call of those that name the folder's files."""
-        subprocess.run(["find", self.dir, "-mindepth", "1", "-delete"], check=True)
-        dest = f"127.0.0.1:{free_ports(1)[0]}"
+    def killed_at(self, call, number, earlier):
+        """A stop is killed at this call of those that name the folder's files. Returns whether there was such a call."""
+        dest = self.emptied()
         queued = numbered(COUNT, b"new")
         if earlier:
-            self.write(dest, text_of(earlier) + cut)
+            self.write(dest, text_of(earlier))
         with self.spooling([dest]) as relay:
             self.queued(relay, queued)
-            paths = [word for name in (dest, dest + "~new", dest + "~aside", "~lock") for word in ("-P", self.path(name))]
-            with subprocess.Popen(["strace", "-f", "-p", str(relay.child.pid), "-e", f"trace={call}", *paths,
-                                   "-e", f"inject={call}:signal=SIGKILL:when={number}"], stderr=subprocess.PIPE) as tracer:
+            with subprocess.Popen(["strace", "-f", "-p", str(relay.child.pid), *self.killing(dest, call, number)],
+                                  stderr=subprocess.PIPE) as tracer:
                 tracer.stderr.readline()
                 with contextlib.suppress(OSError):
                     relay.ask(b"stop", b"\n")
                 killed = relay.child.wait(LIMIT) == -signal.SIGKILL
                 tracer.communicate(timeout=LIMIT)
+        written = self.whole_lines(dest)
+        self.assertEqual(written, (earlier + queued)[:len(written)], "the file has whole lines, in order")
+        if not killed or call == "fsync":
+            self.assertEqual(written, earlier + queued, "all was written before")
+        self.assertEqual(self.sent_by_another(dest), written)
+        return killed
+
+    def test_at_a_start(self):
+        """What is behind the whole lines of a file is put aside: it is there once at least, and the lines come, each once."""
+        earlier = numbered(COUNT, b"old")
+        ends = set()
+        for call, number in (*((name, 1) for name in ("openat", "write", "fsync", "ftruncate")), ("openat", 2)):
+            with self.subTest(call=call, number=number):
+                dest = self.emptied()
+                self.write(dest, text_of(earlier) + b"cut 1 17")
+                words = ["run", *self.given({"config": self.configuration([dest], free_ports(3)), "rules": ALL.format(dest),
+                                             "rewrite": None}), "--admin", str(free_ports(1)[0]), "--spool", self.dir]
+                # With -D strace is no parent of the relay, which is the child then.
+                with subprocess.Popen(["strace", "-D", "-f", "-o", os.devnull, *self.killing(dest, call, number), Settings.relayd,
+                                       *words], stdout=subprocess.PIPE, stderr=subprocess.DEVNULL) as relay:
+                    ends.add(relay.stdout.readline())
+                    relay.kill()
+                self.assertEqual(self.sent_by_another(dest), earlier)
+                texts = []
+                for name in self.files():
+                    with open(self.path(name), "rb") as file:
+                        texts.append(file.read())
+                self.assertIn(b"cut 1 17", texts)
+        self.assertIn(b"", ends, "a relay was killed before it was ready")
+
+    def emptied(self):
+        """A destination at which nobody is, and a folder without files."""
+        subprocess.run(["find", self.dir, "-mindepth", "1", "-delete"], check=True)
+        return f"127.0.0.1:{free_ports(1)[0]}"
+
+    def killing(self, dest, call, number):
+        """The words with which strace kills a program at a call of those that name the folder's files."""
+        paths = [word for name in (dest, dest + "~new", dest + "~aside", "~lock") for word in ("-P", self.path(name))]
+        return ["-e", f"trace={call}", *paths, "-e", f"inject={call}:signal=SIGKILL:when={number}"]
+
+    def whole_lines(self, dest):
+        """The whole lines of a file, if it is there."""
+        if not os.path.exists(self.path(dest)):
+            return []
+        with open(self.path(dest), "rb") as file:
+            return file.read().split(b"\n")[:-1]
+
+    def sent_by_another(self, dest):
+        """What the store of a destination gets, once it is there, of what a relay left, before a line that is new."""
         store = self.store_at(int(dest.split(":")[1]))
         with self.spooling([dest]) as relay:
             relay.lines(b"last 1 1\n")
             self.wait_for(lambda: store.lines()[-1:] == [b"last 1 1"], "the last line has come")
             self.settles(relay)
-        came = store.lines()[:-1]
-        self.assertEqual([line for line in came if line in set(earlier)], earlier, "the earlier file is sent once")
-        kept = [line for line in came if line not in set(earlier)]
-        self.assertEqual(kept, queued[:len(kept)])
-        if not killed:
-            self.assertEqual(kept, queued)
+        return store.lines()[:-1]
 
     def store_at(self, port):
         """A store at a port."""
@@ -293,3 +338,20 @@ class TheEnd(WithSpool):
             _, ran = relay.stop()
         self.assertEqual((ran.status, ran.out), (3, b"settled\n"))
         self.assertIn(b"cannot write", ran.err)
+
+    def test_the_folder_cannot_be_synced(self):
+        """The lines are in the file, and count as kept."""
+        dest = f"127.0.0.1:{free_ports(1)[0]}"
+        library = compiled(os.fspath(self.folder), "starved")
+
+        def fails():
+            os.environ.update(LD_PRELOAD=library, NO_FOLDER_SYNCS=library)
+
+        with self.spooling([dest], "--log", before=fails) as relay:
+            self.queued(relay, numbered(10))
+            log = Log(relay.child.stderr)
+            self.ends(relay)
+            log.thread.join(LIMIT)
+        self.assertEqual(self.held(dest), numbered(10))
+        self.assertEqual(log.of(dest)[-1], b"stopped, 10 datapoints spooled")
+        self.assertEqual(log.lines[-2:], [b"relay stopped, 10 datapoints spooled\n", b"relay stopped, 0 datapoints not sent\n"])

@@ -16,7 +16,7 @@ CALL = re.compile(r"(?m)^\d+ +(\w+)\((.*)$")
 CALLS = "write,pwrite64,fsync,fdatasync,rename,renameat,renameat2"
 
 
-@unittest.skipUnless(shutil.which("strace"), "strace is not there")
+@unittest.skipUnless(shutil.which("strace"), "strace is missing")
 class Synced(WithSpool):
     """The order of the calls that write, sync and rename."""
 

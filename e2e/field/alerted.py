@@ -18,7 +18,8 @@ from programs import HOST, LIMIT, Relayd, wait_until
 from scraped import Prometheus
 
 PLACES = 20_000  # of a queue
-SHORTER = [(r"for: \d+s", "for: 1s"), (r"\[\d+m\]", "[10s]"), (r"> 120", "> 15"), (r"_total\[10s\]\) > 5", "_total[10s]) > 2")]
+SPOOLED = 1_048_576  # bytes of files, the fewest that may be asked for
+SHORTER = [(r"for: \d+[sm]", "for: 1s"), (r"\[\d+m\]", "[10s]"), (r"> 120", "> 15"), (r"_total\[10s\]\) > 5", "_total[10s]) > 2")]
 
 
 class Alerting(Prometheus):
@@ -199,6 +200,25 @@ class Alerted(Field):
         self.fire(prometheus, began, "TakesNothing")
         store.read_on()
         self.assertTrue(wait_until(lambda: "TakesNothing" not in prometheus.firing()), "it ends")
+
+    def test_files_of_a_store_that_is_away(self):
+        """They have what comes, until they are full; the store gets it once it is there."""
+        port, status = free_ports(2)
+        spool = self.path("spool")
+        os.makedirs(spool)
+        options = ("--status", str(status), "--spool", spool, "--spool-size", str(SPOOLED))
+        relay = self.begin(Relayd(self.path("relay"), [f"{HOST}:{port}"], queue=PLACES // 10, options=options))
+        prometheus = self.begin(Alerting(self.path("prometheus"), status))
+        began = time.time()
+        steady = Producer(relay.line_port, b"%s 1 1\n" % (b"a" * 200))
+        self.fire(prometheus, began, "Spooling")
+        self.assertTrue(wait_until(lambda: prometheus.query("relayd_destination_spool_full == 1")), "they are full")
+        self.fire(prometheus, time.time(), "SpoolFull")
+        store = Store(port)
+        self.addCleanup(store.stop)
+        store.start()
+        self.ends(prometheus)
+        steady.end()
 
     def test_a_dead_receiver(self):
         """The times of that alert, by promtool."""

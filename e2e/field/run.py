@@ -29,9 +29,10 @@ import pictured  # noqa: E402
 import programs  # noqa: E402
 import restarted  # noqa: E402
 import scraped  # noqa: E402
+import spooled  # noqa: E402
 from fixtures.harness import Settings  # noqa: E402
 
-MODULES = (alerted, cases, dashboards, encrypted, long_lines, pictured, restarted, scraped)
+MODULES = (alerted, cases, dashboards, encrypted, long_lines, pictured, restarted, scraped, spooled)
 
 
 def main():

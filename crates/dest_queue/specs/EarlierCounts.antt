@@ -16,15 +16,6 @@ after_run last earlier =
       dropped = sum earlier.dropped last.dropped;
     }
 
--- datapoints that found no room behind the rest were offered once more, and dropped
-abbrev pub after_drops : ℕ → EarlierCounts → EarlierCounts
-after_drops count earlier =
-    record {
-      offered = sum earlier.offered count;
-      kept = earlier.kept;
-      dropped = sum earlier.dropped count;
-    }
-
 -- the counts of all runs, while this many datapoints of earlier ones wait
 abbrev pub with_rest : (rest : ℕ) → Counts → EarlierCounts → Counts
 with_rest rest counts earlier =

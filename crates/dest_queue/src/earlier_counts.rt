@@ -1,6 +1,6 @@
 //! What the queues of a destination counted in runs that have ended.
 ghost use Rattle.std.specs.Prelude.{◌≡◌};
-ghost use Rattle.dest_queue.specs.EarlierCounts.{after_run, after_drops, with_rest};
+ghost use Rattle.dest_queue.specs.EarlierCounts.{after_run, with_rest};
 
 use crate::counts::Counts;
 
@@ -47,18 +47,6 @@ impl EarlierCounts {
             offered: self.offered.saturating_add(last.offered),
             kept: self.kept.saturating_add(last.kept),
             dropped: self.dropped.saturating_add(last.dropped),
-        }
-    }
-
-    /// This many datapoints that a queue had kept found no room behind those of earlier runs: they were taken from it, offered
-    /// once more, and dropped.
-    pub fn after_drops(self, count: u64) -> EarlierCounts
-        ensures { result ≡ after_drops count self }
-    {
-        EarlierCounts {
-            offered: self.offered.saturating_add(count),
-            kept: self.kept,
-            dropped: self.dropped.saturating_add(count),
         }
     }
 
