@@ -25,6 +25,16 @@ BAR = 0.05  # seconds that the median of these ways may last longer
 TRIES = 3
 
 
+def awaits_disk(process):
+    """Whether a thread of a process waits for what a process is to answer that serves a disk."""
+    folder = f"/proc/{process}/task"
+    for thread in os.listdir(folder):
+        with contextlib.suppress(FileNotFoundError), open(f"{folder}/{thread}/wchan", encoding="ascii") as file:
+            if file.read() == "request_wait_answer":
+                return True
+    return False
+
+
 class Disks(Diversion):
     """Each has a disk of its own."""
 
@@ -188,14 +198,13 @@ class Disks(Diversion):
         with self.diverting([dest, f"127.0.0.1:{beside.port}"], size="1073741824") as relay:
             before = self.median_way(relay, beside, b"before", lines[:30_000])
             self.wait_for(lambda: self.files() != [], "files are written")
-            child.send_signal(signal.SIGSTOP)
-            self.pours(relay, lines[30_000:70_000], 1)
-            self.wait_for(lambda: self.dropped(relay) > 0, "what has no room is dropped")
-            for attempt in range(TRIES):
-                meanwhile = self.median_way(relay, beside, b"meanwhile%d." % attempt, lines[70_000:])
-                if meanwhile - before < BAR:
-                    break
-            child.send_signal(signal.SIGCONT)
+            with self.hanging(child):
+                self.pours(relay, lines[30_000:70_000], 1)
+                self.wait_for(lambda: self.dropped(relay) > 0, "what has no room is dropped")
+                for attempt in range(TRIES):
+                    meanwhile = self.median_way(relay, beside, b"meanwhile%d." % attempt, lines[70_000:])
+                    if meanwhile - before < BAR:
+                        break
             self.assertLess(meanwhile - before, BAR)
             store = self.store_at(port)
             self.wait_for(lambda: store.size() > 500_000, "the files go on")
@@ -214,24 +223,32 @@ class Disks(Diversion):
         with self.diverting([dest, f"127.0.0.1:{beside.port}"], size="1073741824") as relay:
             self.pours(relay, lines[:12_000], 1)
             self.wait_for(lambda: self.files() != [], "files are written")
-            child.send_signal(signal.SIGSTOP)
-            relay.lines(text_of(lines[12_000:13_000]))
-            ended = []
-            reload = threading.Thread(target=lambda: ended.append(self.run_words((*words, str(relay.admin)))))
-            reload.start()
-            time.sleep(0.5)
-            self.assertEqual(ended, [])
-            relay.lines(text_of(lines[13_000:14_000]))
-            self.has_all(beside, lines[:14_000])
-            reload.join(LIMIT)
-            self.assertEqual(ended, [Ran(3, b"", b"relayd: spool: the disk does not answer within 10 seconds\n")])
-            child.send_signal(signal.SIGCONT)
+            with self.hanging(child):
+                relay.lines(text_of(lines[12_000:13_000]))
+                self.wait_for(lambda: awaits_disk(relay.child.pid), "the keeper waits for the disk")
+                ended = []
+                reload = threading.Thread(target=lambda: ended.append(self.run_words((*words, str(relay.admin)))))
+                reload.start()
+                relay.lines(text_of(lines[13_000:14_000]))
+                self.has_all(beside, lines[:14_000])
+                self.assertEqual(ended, [])
+                reload.join(LIMIT)
+                self.assertEqual(ended, [Ran(3, b"", b"relayd: spool: the disk does not answer within 10 seconds\n")])
             self.assertEqual(self.run_words((*words, str(relay.admin))).status, 0)
             relay.lines(text_of(lines[14_000:]))
             self.has_all(beside, lines)
             self.has_all(self.store_at(port), lines)
             self.are_sent()
             self.over(relay)
+
+    @contextlib.contextmanager
+    def hanging(self, child):
+        """The disk that a process serves hangs meanwhile."""
+        child.send_signal(signal.SIGSTOP)
+        try:
+            yield
+        finally:
+            child.send_signal(signal.SIGCONT)
 
     def median_way(self, relay, store, prefix, lines):
         """The median of the seconds in which lines came to a store while others are sent."""

@@ -30,6 +30,9 @@ use std::time::Instant;
 /// How many milliseconds a turn waits at most for a connection: so late the thread sees that it is to stop.
 const MOST_WAIT_MS: u64 = 20;
 
+/// How many milliseconds the thread sleeps before it asks again for random keys.
+const KEYS_PAUSE_MS: u64 = 1_000;
+
 /// How many bytes of the configuration's checksum the status shows, each in two digits.
 const SUM_BYTES: usize = 6;
 
@@ -374,7 +377,7 @@ fn serve_until_stopped<B: Set, R: Wait + Clock + RandomSource + SystemFacts>(
 ) {
     let StatusServer { listener, history } = server;
     let started = clock_seconds(rt).saturating_sub(clock.millis() / 1_000);
-    let Ok(keys) = RandomState::new(rt) else {
+    let Some(keys) = keys_until_stopped(rt, signals) else {
         return;
     };
     for _ in rt.forever() {
@@ -397,6 +400,22 @@ fn serve_until_stopped<B: Set, R: Wait + Clock + RandomSource + SystemFacts>(
             times,
         };
         listener.take_turn(rt, alloc, keys, &view, millis, MOST_WAIT_MS);
+    }
+    unreachable!()
+}
+
+/// Random keys for the table of connections. While the system has none, tries again each second; `None` if the server is to stop
+/// meanwhile.
+fn keys_until_stopped<R: Wait + RandomSource>(rt: &R, signals: &Signals) -> Option<RandomState> {
+    for _ in rt.forever() {
+        let seen = signals.stops();
+        if signals.status_stops() {
+            return None;
+        }
+        if let Ok(keys) = RandomState::new(rt) {
+            return Some(keys);
+        }
+        signals.sleep(rt, seen, KEYS_PAUSE_MS);
     }
     unreachable!()
 }
