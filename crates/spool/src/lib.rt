@@ -53,7 +53,7 @@ pub use line_count::lines_in;
 pub use open_folder::{FolderAt, OpenFault};
 pub use pieces::{SendOutcome, send_piece};
 pub use spool_disk::SpoolDisk;
-pub use spool_files::{SpoolFiles, is_of_no_destination, open_all, open_others};
+pub use spool_files::{SpoolFiles, Unopened, is_of_no_destination, open_all, open_others};
 pub use spool_notes::{MOST_NEWS, SpoolFailure, SpoolNotes, SpoolStall};
 pub use turn::Turn;
 pub use waiting::Waiting;

@@ -16,6 +16,24 @@ pub struct SpoolFiles {
     pub news: String,
 }
 
+/// Why the files of destinations are not open, and what is to be said of their folder, in whole lines: what was put aside before
+/// the fault stays so.
+#[derive(Drop)]
+pub struct Unopened {
+    pub fault: OpenFault,
+    pub news: String,
+}
+
+impl Unopened {
+    /// Out of memory; there is nothing to be said.
+    pub fn no_memory(alloc: Global) -> Unopened {
+        Unopened {
+            fault: OpenFault::NoMemory,
+            news: String::new(alloc),
+        }
+    }
+}
+
 /// The files of destinations in a folder. The news name each file there that is of no destination, each that holds something
 /// else than whole lines, and each destination whose name is too long for a file. Refuses a file that cannot be used, and if out
 /// of memory.
@@ -24,40 +42,27 @@ pub fn open_all<D: SpoolDisk>(
     alloc: Global,
     folder: FolderAt<'_>,
     dests: &[Dest],
-) -> Result<SpoolFiles, OpenFault> {
+) -> Result<SpoolFiles, Unopened> {
     let mut strangers = String::new(alloc);
-    tell_strangers(disk, alloc, folder.path, dests, &mut strangers)?;
-    open_each(disk, alloc, folder, dests, &[], strangers)
+    match tell_strangers(disk, alloc, folder.path, dests, &mut strangers) {
+        Ok(()) => open_each(disk, alloc, folder, dests, &[], strangers),
+        Err(NoMemory) => {
+            drop(strangers);
+            Err(Unopened::no_memory(alloc))
+        }
+    }
 }
 
 /// The files of those of these destinations that are not known, as [`open_all`] opens those of all: the files of the others are
-/// open. What is of no destination is not named again. It does not reach the disk if all are known.
+/// open. What is of no destination is not named again.
 pub fn open_others<D: SpoolDisk>(
     disk: &D,
     alloc: Global,
     folder: FolderAt<'_>,
     dests: &[Dest],
     are_known: &[bool],
-) -> Result<SpoolFiles, OpenFault> {
-    let news = String::new(alloc);
-    if are_all_known(dests, are_known) {
-        let mut none = Vec::new(alloc);
-        for _ in dests {
-            add(&mut none, None)?;
-        }
-        return Ok(SpoolFiles { dests: none, news });
-    }
-    open_each(disk, alloc, folder, dests, are_known, news)
-}
-
-/// Whether each of these destinations is known.
-fn are_all_known(dests: &[Dest], are_known: &[bool]) -> bool {
-    for place in 0..dests.len() {
-        if !are_known.get(place).copied().unwrap_or(false) {
-            return false;
-        }
-    }
-    true
+) -> Result<SpoolFiles, Unopened> {
+    open_each(disk, alloc, folder, dests, are_known, String::new(alloc))
 }
 
 /// The files of those of these destinations that are not known, with these news before others.
@@ -68,8 +73,10 @@ fn open_each<D: SpoolDisk>(
     dests: &[Dest],
     are_known: &[bool],
     news: String,
-) -> Result<SpoolFiles, OpenFault> {
-    let mut folder = OpenFolder::new(disk, alloc, at, dests.len(), news)?;
+) -> Result<SpoolFiles, Unopened> {
+    let Ok(mut folder) = OpenFolder::new(disk, alloc, at, dests.len(), news) else {
+        return Err(Unopened::no_memory(alloc));
+    };
     let mut spools = Vec::new(alloc);
     match add_each(disk, alloc, &mut folder, dests, are_known, &mut spools) {
         Ok(()) => Ok(SpoolFiles {
@@ -78,10 +85,24 @@ fn open_each<D: SpoolDisk>(
         }),
         Err(fault) => {
             drop(spools);
-            drop(folder);
-            Err(fault)
+            Err(Unopened {
+                fault,
+                news: whole_lines(folder.into_news()),
+            })
         }
     }
+}
+
+/// News without the line in which memory ran out, if it did.
+fn whole_lines(news: String) -> String {
+    let mut news = news;
+    for _ in 0..news.len() {
+        if news.as_str().ends_with('\n') {
+            break;
+        }
+        let _cut = news.pop();
+    }
+    news
 }
 
 /// Adds the files of each destination that is not known.
