@@ -203,14 +203,22 @@ fn write_rest<'n, D: SpoolDisk + Drop>(
     (Some(left), sink)
 }
 
-/// Writes to files what is left in slots, as far as files keep it.
+/// Writes to files what is left in slots, as far as files keep it. Returns how many datapoints they keep now, and how many are lost.
 pub fn spool_slots<D: SpoolDisk + Copy + Drop>(
     disk: &D,
     alloc: Global,
     slots: &DestSlots,
     limit: Option<u64>,
-) {
+) -> GoneEnd {
+    let mut all = GoneEnd {
+        spooled: 0,
+        unsent: 0,
+    };
     for place in 0..slots.len() {
-        drop(spool_left(*disk, alloc, slots.take(place), limit));
+        let SpooledLeft { end, files } = spool_left(*disk, alloc, slots.take(place), limit);
+        drop(files);
+        all.spooled = all.spooled.saturating_add(end.spooled);
+        all.unsent = all.unsent.saturating_add(end.unsent);
     }
+    all
 }
