@@ -4,14 +4,14 @@ use crate::books::print_made;
 use crate::loops::{plan_and_door, supply};
 use crate::marks::{CALLS, begin, end};
 use locked_queues::{Door, ListDoor};
-use mio_loops::{LISTENER, ReadTotals, ReadinessFault, SystemTimes, Token};
+use mio_loops::{LISTENER, LeftWriter, ReadTotals, ReadinessFault, SystemTimes, Token};
 use reader_core::ReaderKind;
 use receivers::{
     Accept, AcceptOutcome, Datagrams, ReceiverRecord, ServedInput, receive_datagrams,
     receive_streams,
 };
 use relay_base::DestId;
-use senders::{Connect, send_batches};
+use senders::{Connect, KeptSocket, send_batches};
 use std::alloc::Global;
 use std::io;
 use std::io::{Read, Write};
@@ -211,6 +211,30 @@ impl Connect for OneConnector {
 
     fn has_closed(&self, _dest: DestId) -> bool {
         false
+    }
+
+    fn hands_over(&self) -> bool {
+        false
+    }
+
+    fn hand_over(&mut self, _dest: DestId, _left: LeftWriter<Taking>) {}
+
+    fn take_back(&mut self, _dest: DestId, _sink: Taking) -> Option<KeptSocket> {
+        None
+    }
+
+    fn end(&mut self) {}
+
+    fn end_connection(&mut self, _dest: DestId) {}
+
+    fn has_ended(&self, _dest: DestId) -> bool {
+        true
+    }
+
+    fn end_writes(&mut self) {}
+
+    fn is_quiet(&self) -> bool {
+        true
     }
 }
 

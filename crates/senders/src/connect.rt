@@ -30,38 +30,30 @@ pub trait Connect {
     fn has_closed(&self, dest: DestId) -> bool;
 
     /// Whether what the sender leaves goes on elsewhere: then no connection is half-closed, and none is waited for.
-    fn hands_over(&self) -> bool {
-        false
-    }
+    fn hands_over(&self) -> bool;
 
     /// Takes what a sender that was stopped leaves of a destination: its writer, with the batch in hand, and the connection.
     /// Called once for each destination, in their order. A connector that hands nothing on drops it.
-    fn hand_over(&mut self, _dest: DestId, _left: LeftWriter<Self::Sink>) {}
+    fn hand_over(&mut self, dest: DestId, left: LeftWriter<Self::Sink>);
 
     /// Gives up the connection of a destination for another sender, and returns its socket. `None` if it takes no more, or if
     /// the connector hands nothing on; the connection is closed then.
-    fn take_back(&mut self, _dest: DestId, _sink: Self::Sink) -> Option<KeptSocket> {
-        None
-    }
+    fn take_back(&mut self, dest: DestId, sink: Self::Sink) -> Option<KeptSocket>;
 
     /// The sender has ended, and asks for nothing more: what is still held for its destinations goes on elsewhere, if it does.
-    fn end(&mut self) {}
+    fn end(&mut self);
 
     /// The sender gives up the connection of a destination, which is no loss: its peer sees the end once it has read what was
     /// written. Call it before the connection is dropped.
-    fn end_connection(&mut self, _dest: DestId) {}
+    fn end_connection(&mut self, dest: DestId);
 
     /// Whether the peer of a destination's last connection, if there was one, has ended it, or lost it.
-    fn has_ended(&self, _dest: DestId) -> bool {
-        true
-    }
+    fn has_ended(&self, dest: DestId) -> bool;
 
     /// Nothing more is written to the connections: their peers see the end once they have read what was written.
-    fn end_writes(&mut self) {}
+    fn end_writes(&mut self);
 
     /// Whether no peer may still send something, which would take back what it has not read if its connection were
     /// closed now.
-    fn is_quiet(&self) -> bool {
-        true
-    }
+    fn is_quiet(&self) -> bool;
 }

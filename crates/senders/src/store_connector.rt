@@ -12,7 +12,7 @@ use crate::store_stream::StoreStream;
 use crate::wire::Wire;
 use log_lines::{DestNotes, Why};
 use mio::net::TcpStream;
-use mio_loops::{Readiness, ReadinessFault, Token};
+use mio_loops::{LeftWriter, Readiness, ReadinessFault, Token};
 use relay_base::{DestId, NoMemory};
 use std::alloc::Global;
 use std::net::Net;
@@ -282,6 +282,12 @@ impl<'g, R: Net + Drop, L: Lookup + Drop> Connect for StoreConnector<'g, R, L> {
         closed.iter().any(|token| token.0 == dest.0) || is_over(&self.links, dest)
     }
 
+    fn hands_over(&self) -> bool {
+        false
+    }
+
+    fn hand_over(&mut self, _dest: DestId, _left: LeftWriter<StoreStream<'g>>) {}
+
     fn take_back(&mut self, dest: DestId, sink: StoreStream<'g>) -> Option<KeptSocket> {
         let kept = self.take_socket(dest, sink.give_up());
         if kept.is_none() {
@@ -289,6 +295,8 @@ impl<'g, R: Net + Drop, L: Lookup + Drop> Connect for StoreConnector<'g, R, L> {
         }
         kept
     }
+
+    fn end(&mut self) {}
 
     fn end_connection(&mut self, dest: DestId) {
         if let Some(Some(link)) = self.links.get_mut(dest.0) {

@@ -108,6 +108,14 @@ impl<'c, 's, N: Connect> Connect for CountedConnector<'c, 's, N> {
         self.connector.end();
     }
 
+    fn end_connection(&mut self, dest: DestId) {
+        self.connector.end_connection(dest);
+    }
+
+    fn has_ended(&self, dest: DestId) -> bool {
+        self.connector.has_ended(dest)
+    }
+
     fn end_writes(&mut self) {
         self.connector.end_writes();
     }

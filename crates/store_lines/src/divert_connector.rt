@@ -7,7 +7,7 @@ use crate::diversions::{DivertTo, QueueLevels};
 use crate::divert_sink::{DivertSink, IntakeSink};
 use crate::sender_places::Share;
 use crate::spool_orders::SpoolOrders;
-use mio_loops::ReadinessFault;
+use mio_loops::{LeftWriter, ReadinessFault};
 use relay_base::{DestId, MOST_DESTINATIONS};
 use senders::{Connect, KeptSocket};
 use spool::Intake;
@@ -321,6 +321,13 @@ impl<'n, 's, N: Connect + Drop, R: Wait + Copy + Drop, Q: QueueLevels + Drop> Co
         }
     }
 
+    // `RestConnector`, which is around this one, hands over what writers have in hand.
+    fn hands_over(&self) -> bool {
+        false
+    }
+
+    fn hand_over(&mut self, _dest: DestId, _left: LeftWriter<DivertSink<'n, N::Sink, R>>) {}
+
     fn take_back(&mut self, dest: DestId, sink: DivertSink<'n, N::Sink, R>) -> Option<KeptSocket> {
         match sink {
             DivertSink::Store { sink, .. } => self.connector.take_back(dest, sink),
@@ -333,6 +340,14 @@ impl<'n, 's, N: Connect + Drop, R: Wait + Copy + Drop, Q: QueueLevels + Drop> Co
 
     fn end(&mut self) {
         self.connector.end();
+    }
+
+    fn end_connection(&mut self, dest: DestId) {
+        self.connector.end_connection(dest);
+    }
+
+    fn has_ended(&self, dest: DestId) -> bool {
+        self.connector.has_ended(dest)
     }
 
     fn end_writes(&mut self) {

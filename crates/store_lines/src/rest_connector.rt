@@ -448,6 +448,14 @@ impl<'n, N: Connect + RestFiles + Drop> Connect for RestConnector<'n, N> {
         self.connector.end();
     }
 
+    fn end_connection(&mut self, dest: DestId) {
+        self.connector.end_connection(dest);
+    }
+
+    fn has_ended(&self, dest: DestId) -> bool {
+        self.connector.has_ended(dest)
+    }
+
     fn end_writes(&mut self) {
         self.connector.end_writes();
     }

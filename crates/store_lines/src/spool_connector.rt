@@ -11,7 +11,7 @@ use crate::sender_places::Share;
 use crate::spool_left::{SpooledRest, spool_rest};
 use crate::spool_orders::SpoolOrders;
 use handover::Rest;
-use mio_loops::ReadinessFault;
+use mio_loops::{LeftWriter, ReadinessFault};
 use relay_base::{DestId, MOST_DESTINATIONS, NoMemory, add};
 use senders::{Connect, HalfClose, KeptSocket, StoreEnd};
 use spool::{DestSpool, FileConnection, FileSink, KeptLines, SpoolDisk, SpoolNotes, Turn};
@@ -648,6 +648,13 @@ where
         self.connector.has_closed(dest)
     }
 
+    // `RestConnector`, which is around this one, hands over what writers have in hand.
+    fn hands_over(&self) -> bool {
+        false
+    }
+
+    fn hand_over(&mut self, _dest: DestId, _left: LeftWriter<SpoolSink<'n, N::Sink, D>>) {}
+
     fn take_back(&mut self, dest: DestId, sink: SpoolSink<'n, N::Sink, D>) -> Option<KeptSocket> {
         match sink {
             SpoolSink::Store(sink) => self.connector.take_back(dest, sink),
@@ -660,6 +667,14 @@ where
             self.leave(place);
         }
         self.connector.end();
+    }
+
+    fn end_connection(&mut self, dest: DestId) {
+        self.connector.end_connection(dest);
+    }
+
+    fn has_ended(&self, dest: DestId) -> bool {
+        self.connector.has_ended(dest)
     }
 
     fn end_writes(&mut self) {

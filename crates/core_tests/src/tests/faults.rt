@@ -3,11 +3,11 @@
 use crate::tests::receivings::received_by;
 use crate::tests::sendings::Sending;
 use crate::tests::supplies::two_lines;
-use mio_loops::{LISTENER, LogInput, ReadTotals, ReadinessFault, SystemTimes, Token};
+use mio_loops::{LISTENER, LeftWriter, LogInput, ReadTotals, ReadinessFault, SystemTimes, Token};
 use queue_records::{Door, Made};
 use receivers::{Accept, AcceptOutcome, Datagrams, ReceiverRecord, ServedInput, receive_datagrams};
 use relay_base::DestId;
-use senders::{Connect, send_batches};
+use senders::{Connect, KeptSocket, send_batches};
 use std::alloc::Global;
 use std::io;
 use std::io::Read;
@@ -200,6 +200,34 @@ impl<'a> Connect for FailingConnector<'a> {
 
     fn has_closed(&self, _dest: DestId) -> bool {
         false
+    }
+
+    fn hands_over(&self) -> bool {
+        false
+    }
+
+    fn hand_over(&mut self, _dest: DestId, _left: LeftWriter<&'a mut FaultyWriter<'static>>) {}
+
+    fn take_back(
+        &mut self,
+        _dest: DestId,
+        _sink: &'a mut FaultyWriter<'static>,
+    ) -> Option<KeptSocket> {
+        None
+    }
+
+    fn end(&mut self) {}
+
+    fn end_connection(&mut self, _dest: DestId) {}
+
+    fn has_ended(&self, _dest: DestId) -> bool {
+        true
+    }
+
+    fn end_writes(&mut self) {}
+
+    fn is_quiet(&self) -> bool {
+        true
     }
 }
 
