@@ -14,6 +14,7 @@ mod connect;
 mod connection;
 mod connection_lines;
 mod counted_supply;
+mod dest_list;
 mod host_addresses;
 mod host_lookup;
 mod kept_socket;
@@ -33,6 +34,7 @@ mod wire;
 
 pub use alarm::Alarm;
 pub use connect::Connect;
+pub use dest_list::copy_list;
 pub use host_addresses::HostAddresses;
 pub use host_lookup::{HostLookup, HostThreads};
 pub use kept_socket::KeptSocket;

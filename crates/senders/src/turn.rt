@@ -6,9 +6,10 @@ ghost use Rattle.senders.specs.Steps.{AllUpOwned, ConnectionsProgress, SomeProgr
 
 use crate::connect::Connect;
 use crate::counted_supply::{CountedSupply, TakeSize};
+use crate::dest_list::copy_list;
 use mio_loops::{ReadinessFault, WriteLoop};
-use queue_records::{MOST_DESTS, Supply};
-use relay_base::DestId;
+use queue_records::Supply;
+use relay_base::{DestId, MOST_DESTINATIONS};
 use std::io::Write;
 
 /// How long a wait lasts at most, in milliseconds.
@@ -36,20 +37,11 @@ pub(crate) fn take_turn<N: Connect, S: Supply>(
 {
     connect_all(connector, writes, supply, millis);
     let pause = serve_before_wait(connector, writes, supply);
-    let mut ready = [DestId(0); MOST_DESTS];
+    let mut ready = [DestId(0); MOST_DESTINATIONS];
     let count = copy_list(connector.wait(pause)?, &mut ready);
     detach_closed(connector, writes);
     writes.turn(&ready[..count], supply);
     Ok(())
-}
-
-/// Copies the destinations of a list, which names each once, and returns how many they are.
-fn copy_list(list: &[DestId], copy: &mut [DestId; MOST_DESTS]) -> usize
-    ensures { result ≤ MOST_DESTS }
-{
-    let count = list.len().min(MOST_DESTS);
-    copy[..count].copy_from_slice(&list[..count]);
-    count
 }
 
 /// Serves what may go on, and returns for how many milliseconds to wait: for none if more may go on at once, and for

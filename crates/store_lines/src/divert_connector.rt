@@ -2,14 +2,13 @@
 
 ghost use Rattle.std.specs.Prelude.{◌≡◌, IfErr};
 
-use crate::dest_list::copy_list;
 use crate::diversions::{DivertTo, QueueLevels};
 use crate::divert_sink::{DivertSink, IntakeSink};
 use crate::sender_places::Share;
 use crate::spool_orders::SpoolOrders;
 use mio_loops::{LeftWriter, ReadinessFault};
 use relay_base::{DestId, MOST_DESTINATIONS};
-use senders::{Connect, KeptSocket};
+use senders::{Connect, KeptSocket, copy_list};
 use spool::Intake;
 use std::sync::Wait;
 

@@ -11,7 +11,6 @@
 #![tactic(auto)]
 
 mod counted_connector;
-mod dest_list;
 mod dest_slots;
 mod diversions;
 mod divert_connector;

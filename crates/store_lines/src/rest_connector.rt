@@ -7,7 +7,6 @@ ghost use Rattle.dest_writer.specs.declared.counting.Counting.{Counting};
 ghost use Rattle.dest_writer.specs.Writer.{bytes_left};
 ghost use Rattle.handover.specs.Rest.{RestState, rest_text, left_text};
 
-use crate::dest_list::copy_list;
 use crate::left_dest::{counts_of, socket_of};
 use crate::rest_files::RestFiles;
 use crate::sender_places::Share;
@@ -18,7 +17,7 @@ use handover::{Rest, RestConnection, RestTurn};
 use mio_loops::{LeftBatch, LeftWriter, ReadinessFault};
 use relay_base::{DestId, MOST_DESTINATIONS, NoMemory, add};
 use run_state::{RestNotes, Signals};
-use senders::{Connect, KeptSocket};
+use senders::{Connect, KeptSocket, copy_list};
 use std::alloc::Global;
 use std::io::Write;
 

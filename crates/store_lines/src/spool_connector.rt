@@ -2,7 +2,6 @@
 
 ghost use Rattle.std.specs.Prelude.{◌≡◌, IfErr};
 
-use crate::dest_list::copy_list;
 use crate::dest_slots::DestSlots;
 use crate::file_end::{FileEnd, PartEnd};
 use crate::left_dest::socket_of;
@@ -13,7 +12,7 @@ use crate::spool_orders::SpoolOrders;
 use handover::Rest;
 use mio_loops::{LeftWriter, ReadinessFault};
 use relay_base::{DestId, MOST_DESTINATIONS, NoMemory, add};
-use senders::{Connect, HalfClose, KeptSocket, StoreEnd};
+use senders::{Connect, HalfClose, KeptSocket, StoreEnd, copy_list};
 use spool::{DestSpool, FileConnection, FileSink, KeptLines, SpoolDisk, SpoolNotes, Turn};
 use std::alloc::Global;
 use std::io;

@@ -5,7 +5,7 @@ ghost use Rattle.std.specs.Prelude.{◌≤◌};
 use relay_base::{DestId, MOST_DESTINATIONS};
 
 /// Copies the destinations of a list, which names each once, and returns how many they are.
-pub(crate) fn copy_list(list: &[DestId], copy: &mut [DestId; MOST_DESTINATIONS]) -> usize
+pub fn copy_list(list: &[DestId], copy: &mut [DestId; MOST_DESTINATIONS]) -> usize
     ensures { result ≤ MOST_DESTINATIONS }
 {
     let count = list.len().min(MOST_DESTINATIONS);
