@@ -11,7 +11,7 @@ use receivers::{
     receive_streams,
 };
 use relay_base::DestId;
-use senders::{Connect, KeptSocket, send_batches};
+use senders::{BatchSender, Connect, KeptSocket, send_batches};
 use std::alloc::Global;
 use std::io;
 use std::io::{Read, Write};
@@ -251,12 +251,17 @@ fn is_sent<R: Wait + Clock>(rt: &HostRuntime, waits: &R, alloc: Global) -> Optio
     let supply = supply(alloc, &[b"a.1 1 5", b"a.2 2 5", b"a.3 3 5"])?;
     let times = SystemTimes::new(waits);
     let stop = AtomicBool::new(false);
-    let connector = OneConnector {
-        is_connected: false,
-        has_waited: false,
+    let sender = BatchSender {
+        connector: OneConnector {
+            is_connected: false,
+            has_waited: false,
+        },
+        dests: 1,
+        limit: 500,
+        supply,
     };
     begin(rt);
-    let record = send_batches(waits, alloc, connector, 1, 500, supply, &times, &stop);
+    let record = send_batches(waits, alloc, sender, &times, &stop);
     end(rt);
     let _ = println!(rt; "answer {:?} {:?}", record.fault, record.logs);
     let is_sent = record.fault == Some(ReadinessFault::Device);

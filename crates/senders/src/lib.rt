@@ -10,6 +10,7 @@
 mod address_choice;
 mod alarm;
 mod attempt;
+mod batch_sender;
 mod connect;
 mod connection;
 mod connection_lines;
@@ -33,6 +34,7 @@ mod wake_gate;
 mod wire;
 
 pub use alarm::Alarm;
+pub use batch_sender::BatchSender;
 pub use connect::Connect;
 pub use dest_list::copy_list;
 pub use host_addresses::HostAddresses;

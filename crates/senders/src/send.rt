@@ -4,6 +4,7 @@ ghost use Rattle.queue_records.specs.Takes.{IsHandedBy};
 ghost use Rattle.senders.specs.Steps.{AllUpOwned, SomeProgress};
 ghost use Rattle.senders.specs.Record.{SenderEnds, EndsFor, AreNone};
 
+use crate::batch_sender::BatchSender;
 use crate::connect::Connect;
 use crate::counted_supply::CountedSupply;
 use crate::sender_record::SenderRecord;
@@ -21,27 +22,28 @@ const LONGEST_END_MS: u64 = 1_000;
 /// stop flag is set: the sender ends after the turn that sees it. It does not write what is still queued or
 /// in hand: the connector is given that ([`Connect::hand_over`]).
 ///
-/// There are 1 to [`MOST_DESTS`] destinations, also those of other senders, and a batch has at most `limit`
-/// datapoints, 1 to [`LARGEST_MESSAGE`]. It ends early if the loop finds no memory at its beginning
-/// (`NoMemory`), and if a wait of the connector fails (`Device`).
+/// There are 1 to [`MOST_DESTS`] destinations, and the limit of a batch is 1 to [`LARGEST_MESSAGE`]. It ends early if
+/// the loop finds no memory at its beginning (`NoMemory`), and if a wait of the connector fails (`Device`).
 pub fn send_batches<R: Wait, N: Connect + Drop, S: Supply + Drop, T: TimeSource, F: StopFlag>(
     rt: &R,
     alloc: Global,
-    connector: N,
-    dests: usize,
-    limit: usize,
-    supply: S,
+    sender: BatchSender<N, S>,
     times: &T,
     stop: &F,
 ) -> SenderRecord<S>
-    requires dests { (1 ≤ dests) × (dests ≤ MOST_DESTS) }
-    requires limit { (1 ≤ limit) × (limit ≤ LARGEST_MESSAGE) }
-    ensures ran { SenderEnds (IsHandedBy S.record_of S.may_hand) dests limit result.fault result.logs.items (S.record_of supply)
-        (S.record_of result.outlet) }
-    ensures fault { EndsFor result.fault result.logs.items (S.record_of supply)
+    requires dests { (1 ≤ sender.dests) × (sender.dests ≤ MOST_DESTS) }
+    requires limit { (1 ≤ sender.limit) × (sender.limit ≤ LARGEST_MESSAGE) }
+    ensures ran { SenderEnds (IsHandedBy S.record_of S.may_hand) sender.dests sender.limit
+        result.fault result.logs.items (S.record_of sender.supply) (S.record_of result.outlet) }
+    ensures fault { EndsFor result.fault result.logs.items (S.record_of sender.supply)
         (S.record_of result.outlet) }
 {
-    let mut connector = connector;
+    let BatchSender {
+        mut connector,
+        dests,
+        limit,
+        supply,
+    } = sender;
     let Ok(mut writes) = WriteLoop::new(alloc, dests, limit) else {
         connector.end();
         return SenderRecord {

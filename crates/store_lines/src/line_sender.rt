@@ -15,7 +15,7 @@ use crate::spool_orders::SpoolOrders;
 use mio_loops::TimeSource;
 use queue_records::Supply;
 use run_state::{BeginNote, EndOrders, EndState, Signals};
-use senders::{Connect, HalfClose, SenderRecord, StoreConnector, send_batches};
+use senders::{BatchSender, Connect, HalfClose, SenderRecord, StoreConnector, send_batches};
 use spool::SpoolDisk;
 use std::alloc::Global;
 use std::net::Net;
@@ -142,6 +142,11 @@ where
     let connector = SpoolConnector::new(connector, *rt, spool, &share, orders);
     let connector = RestConnector::new(alloc, connector, rests, share, signals);
     let connector = CountedConnector::new(connector, end, BeginNote::new(signals));
-    let stop = signals.senders();
-    send_batches(rt, alloc, connector, dests, limit, supply, times, stop)
+    let sender = BatchSender {
+        connector,
+        dests,
+        limit,
+        supply,
+    };
+    send_batches(rt, alloc, sender, times, signals.senders())
 }

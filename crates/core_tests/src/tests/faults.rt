@@ -7,7 +7,7 @@ use mio_loops::{LISTENER, LeftWriter, LogInput, ReadTotals, ReadinessFault, Syst
 use queue_records::{Door, Made};
 use receivers::{Accept, AcceptOutcome, Datagrams, ReceiverRecord, ServedInput, receive_datagrams};
 use relay_base::DestId;
-use senders::{Connect, KeptSocket, send_batches};
+use senders::{BatchSender, Connect, KeptSocket, send_batches};
 use std::alloc::Global;
 use std::io;
 use std::io::Read;
@@ -243,13 +243,18 @@ fn is_wait_reported<R: Wait + Clock>(
     }
     let supply = two_lines(alloc)?;
     let (mut sink, waited) = (FaultyWriter::new(Vec::new(alloc), &[]), AtomicU64::new(0));
-    let connector = FailingConnector {
-        sink: Some(&mut sink),
-        waits: 0,
-        waited: &waited,
+    let sender = BatchSender {
+        connector: FailingConnector {
+            sink: Some(&mut sink),
+            waits: 0,
+            waited: &waited,
+        },
+        dests: 1,
+        limit,
+        supply,
     };
     let (times, stop) = (SystemTimes::new(rt), AtomicBool::new(false));
-    let record = send_batches(rt, alloc, connector, 1, limit, supply, &times, &stop);
+    let record = send_batches(rt, alloc, sender, &times, &stop);
     let is_device = record.fault == Some(ReadinessFault::Device);
     drop(record);
     let is_written = sink.taken() == b"a 1 2\nb 3 4\n".as_slice();

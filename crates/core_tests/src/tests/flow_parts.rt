@@ -15,7 +15,8 @@ use reader_core::ReaderKind;
 use receivers::{ReceiverRecord, StreamListener, StreamPort, receive_streams};
 use relay_base::DestId;
 use senders::{
-    Alarm, HostThreads, Resolve, SenderRecord, SenderShare, StoreConnector, send_batches,
+    Alarm, BatchSender, HostThreads, Resolve, SenderRecord, SenderShare, StoreConnector,
+    send_batches,
 };
 use std::alloc::Global;
 use std::io::Write;
@@ -210,12 +211,18 @@ fn send_by<B: Set, R: Threads + Wait + Clock + Net + Resolve + Copy + Send + Dro
         drop(outlet);
         return None;
     };
-    let (times, count, stop) = (SystemTimes::new(rt), dests.len(), common.stop);
+    let sender = BatchSender {
+        connector,
+        dests: dests.len(),
+        limit: LIMIT,
+        supply: outlet,
+    };
+    let times = SystemTimes::new(rt);
     let SenderRecord {
         outlet,
         logs,
         fault,
-    } = send_batches(rt, alloc, connector, count, LIMIT, outlet, &times, stop);
+    } = send_batches(rt, alloc, sender, &times, common.stop);
     drop(logs);
     let record = outlet.close();
     fault.is_none().then_some(record)
