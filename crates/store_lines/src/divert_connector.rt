@@ -320,7 +320,7 @@ impl<'n, 's, N: Connect + Drop, R: Wait + Copy + Drop, Q: QueueLevels + Drop> Co
         }
     }
 
-    // `RestConnector`, which is around this one, hands over what writers have in hand.
+    // What writers have in hand is for the connector around this one.
     fn hands_over(&self) -> bool {
         false
     }

@@ -647,7 +647,7 @@ where
         self.connector.has_closed(dest)
     }
 
-    // `RestConnector`, which is around this one, hands over what writers have in hand.
+    // What writers have in hand is for the connector around this one.
     fn hands_over(&self) -> bool {
         false
     }
