@@ -35,6 +35,14 @@ const SETTINGS: [Setting; 15] = [
     Setting::UdpReceiverPort,
 ];
 
+/// The section `[relay]` of a file, where it stands, and the path of the relay rules, if they are used.
+#[derive(Clone, Copy)]
+struct RelaySection<'a> {
+    file: TextFile<'a>,
+    at: SectionAt<'a>,
+    rules: Option<&'a str>,
+}
+
 /// Notes of what a configuration says without effect, or may not intend.
 pub(crate) fn add_configuration_notes(
     alloc: Global,
@@ -47,15 +55,12 @@ pub(crate) fn add_configuration_notes(
     for (number, section) in config.ini.sections().iter().enumerate() {
         let at = config.section_at(number, section);
         if at.name == RELAY {
-            add_unknown_settings(
-                alloc,
-                notes,
-                config.file,
+            let relay = RelaySection {
+                file: config.file,
                 at,
-                section,
-                path_of_rules(settings, rules),
-                wanted,
-            );
+                rules: path_of_rules(settings, rules),
+            };
+            add_unknown_settings(alloc, notes, relay, section, wanted);
             add_receiver_notes(notes, section, settings);
         } else if at.name.starts_with("relay:") || at.name == "DEFAULT" {
             notes.add(format_args!("{at}: relayd reads settings from [relay] only"));
@@ -113,20 +118,18 @@ fn add_method_notes(
 fn add_unknown_settings(
     alloc: Global,
     notes: &mut Notes,
-    file: TextFile<'_>,
-    at: SectionAt<'_>,
+    relay: RelaySection<'_>,
     section: &Section,
-    rules: Option<&str>,
     wanted: NotesWanted,
 ) {
     let mut keys = String::new(alloc);
     for pair in section.pairs() {
-        look_at_key(alloc, notes, file, at, pair, rules, &mut keys);
+        look_at_key(alloc, notes, relay, pair, &mut keys);
     }
     if !keys.is_empty() && wanted == NotesWanted::All {
         notes.add(format_args!(
             "{} [relay]: these keys of carbon have no effect in relayd: {}",
-            EscapedText(file.path),
+            EscapedText(relay.file.path),
             EscapedText(keys.as_str())
         ));
     }
@@ -137,30 +140,23 @@ fn add_unknown_settings(
 fn look_at_key(
     alloc: Global,
     notes: &mut Notes,
-    file: TextFile<'_>,
-    at: SectionAt<'_>,
+    relay: RelaySection<'_>,
     pair: &KeyValue,
-    rules: Option<&str>,
     carbon_keys: &mut String,
 ) {
     let key = pair.key();
     let Some(upper) = notes.answer(key.to_ascii_uppercase(alloc)) else {
         return;
     };
-    if add_effect(
-        notes,
-        at.at_key(file.text, key),
-        upper.as_str(),
-        pair.value(),
-        rules,
-    ) {
+    let at = relay.at.at_key(relay.file.text, key);
+    if add_effect(notes, at, upper.as_str(), pair.value(), relay.rules) {
         return;
     }
     if is_carbon_key(upper.as_str()) {
         let comma = if carbon_keys.is_empty() { "" } else { ", " };
         notes.answer(write!(carbon_keys, "{comma}{key}"));
     } else {
-        add_unknown_setting(alloc, notes, file, at, key, upper.as_str());
+        add_unknown_setting(alloc, notes, relay, key, upper.as_str());
     }
 }
 
@@ -168,16 +164,15 @@ fn look_at_key(
 fn add_unknown_setting(
     alloc: Global,
     notes: &mut Notes,
-    file: TextFile<'_>,
-    at: SectionAt<'_>,
+    relay: RelaySection<'_>,
     key: &str,
     upper: &str,
 ) {
     let Some(nearest) = nearest_setting(alloc, notes, key, upper) else {
         return;
     };
-    let at = at.at_key(file.text, key);
-    match line_of_key(file.text, at.number, key) {
+    let at = relay.at.at_key(relay.file.text, key);
+    match line_of_key(relay.file.text, at.number, key) {
         Some(line) if is_indented(line.text) => notes.add(format_args!(
             "{at}: `{}` is read as a key: carbon adds the line to the value above, and relayd reads each line by itself, so an item of a list may be missing; write the list on one line",
             EscapedText(key)
