@@ -78,7 +78,7 @@ impl PortReceiver<'_> {
                     number,
                     notes,
                 };
-                receive_connections(rt, inflow, plan, door, &times, stop)
+                receive_connections(rt, inflow, plan, door, &times, &stop)
             }
             Inlet::Datagrams(source) => {
                 let inflow = Inflow {

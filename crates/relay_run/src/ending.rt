@@ -14,7 +14,7 @@ use locked_queues::{DoorRecord, OutletRecord};
 use mio_loops::WriteLog;
 use receivers::{ReceiverControl, wake_receivers};
 use relay_files::RelayFault;
-use run_state::Signals;
+use run_state::{RunEnd, Stopper};
 use std::alloc::Global;
 use std::rt::Clock;
 use std::sync::{Arc, Wait};
@@ -40,7 +40,7 @@ pub(crate) fn end_threads<
 >(
     rt: &R,
     alloc: Global,
-    signals: &Signals,
+    stopper: Stopper<'_>,
     started: StartedThreads<O, S>,
     served: Result<(), RelayFault>,
     work: &mut A,
@@ -58,40 +58,38 @@ pub(crate) fn end_threads<
         controls,
         ..
     } = started;
-    let is_handing = work.is_handing(served.is_err());
-    let is_last = served.is_ok() && !is_handing;
-    let server = end_server(rt, signals, servers, is_handing);
-    let parting = end_parting(rt, alloc, parting, is_handing, work);
-    if is_last {
-        work.close_receivers(rt, alloc, controls.as_slice());
-    }
-    if is_handing {
+    let end = work.end_of_run(served.is_err());
+    let server = end_server(rt, stopper, servers, end);
+    let parting = end_parting(rt, alloc, parting, end, work);
+    match end {
+        RunEnd::Stop => work.close_receivers(rt, alloc, controls.as_slice()),
         // No port is shut: its receiver ends with the others.
-        work.stop_datagrams();
+        RunEnd::HandOver => work.stop_datagrams(),
+        RunEnd::Fail => {}
     }
     let (receivers, are_kept) = end_receivers(
         rt,
         alloc,
-        signals,
+        stopper,
         receivers,
         controls.as_slice(),
         work,
     );
     drop(controls);
     let served = served_if(are_kept, served);
-    if is_last && served.is_ok() {
+    if matches!(end, RunEnd::Stop) && served.is_ok() {
         work.drain(rt, alloc);
     }
-    signals.stop_senders();
+    stopper.stop_senders();
     work.wake_senders();
     let (senders, are_kept) = join_all(rt, alloc, senders);
     let served = served_if(are_kept, served);
     let _ends = join_all(rt, alloc, parting);
     // Nothing goes to an intake any more.
-    signals.stop_keeper();
+    stopper.stop_keeper();
     work.wake_senders();
     let _ends = join_all(rt, alloc, keeping);
-    signals.stop_watchers();
+    stopper.stop_watchers();
     let log = join_last(rt, logs);
     let server = match server {
         ServerEnd::Ended(server) => server,
@@ -117,15 +115,15 @@ enum ServerEnd<S> {
 /// others go on.
 fn end_server<R: Threads + Wait, S: Send + Drop>(
     rt: &R,
-    signals: &Signals,
+    stopper: Stopper<'_>,
     servers: Vec<JoinHandle<S>>,
-    is_handing: bool,
+    end: RunEnd,
 ) -> ServerEnd<S> {
-    if !is_handing {
+    if !end.hands_over() {
         return ServerEnd::Runs(servers);
     }
-    signals.begin_handing();
-    signals.stop_status();
+    stopper.begin_handing();
+    stopper.stop_status();
     ServerEnd::Ended(join_last(rt, servers))
 }
 
@@ -135,10 +133,10 @@ fn end_parting<R: Threads + Wait + Clock, O, S, A: FirstWork<R, O, S>>(
     rt: &R,
     alloc: Global,
     parting: Vec<JoinHandle<()>>,
-    is_handing: bool,
+    end: RunEnd,
     work: &mut A,
 ) -> Vec<JoinHandle<()>> {
-    if !is_handing || parting.is_empty() {
+    if !end.hands_over() || parting.is_empty() {
         return parting;
     }
     work.end_parting(rt, alloc);
@@ -160,14 +158,14 @@ fn join_last<R: Threads + Wait, T: Send + Drop>(rt: &R, children: Vec<JoinHandle
 fn end_receivers<R: Threads + Wait + Clock, O, S, A: FirstWork<R, O, S>>(
     rt: &R,
     alloc: Global,
-    signals: &Signals,
+    stopper: Stopper<'_>,
     receivers: Vec<JoinHandle<ThreadEnd<DoorRecord, FedLog>>>,
     controls: &[Arc<ReceiverControl>],
     work: &A,
 ) -> (Vec<ThreadEnd<DoorRecord, FedLog>>, bool) {
     let mut receivers = receivers;
     let last = receivers.pop();
-    signals.stop_receivers();
+    stopper.stop_receivers();
     wake_receivers(controls);
     let (mut ends, mut are_kept) = join_all(rt, alloc, receivers);
     work.stop_datagrams();

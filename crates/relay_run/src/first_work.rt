@@ -7,6 +7,7 @@ ghost use Rattle.relay_run.specs.Running.{Served, opening};
 
 use receivers::ReceiverControl;
 use relay_files::{RelayFault, write_out};
+use run_state::RunEnd;
 use std::alloc::Global;
 use std::io::Write;
 use std::rt::Clock;
@@ -26,9 +27,9 @@ pub(crate) trait FirstWork<R: Wait + Clock, O, S> {
     /// Does what is left to do for the run before, and answers commands until one is `stop`, or until another run is to follow.
     fn serve(&mut self, rt: &R, alloc: Global);
 
-    /// Whether what the threads hold goes on elsewhere, now that it has served: another run follows, or one was before this one,
-    /// which has failed. What a run inherited that could not begin is not lost either.
-    fn is_handing(&self, has_failed: bool) -> bool;
+    /// How the run ends, now that the first thread has served, or that the run has failed: what a run inherited that could not
+    /// begin is not lost either.
+    fn end_of_run(&self, has_failed: bool) -> RunEnd;
 
     /// Tells the sender to destinations that are gone to end, and answers commands until it has written its files.
     fn end_parting(&mut self, rt: &R, alloc: Global);

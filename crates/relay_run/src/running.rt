@@ -57,7 +57,7 @@ pub(crate) fn run_until_ended<
         process,
         recorder,
     };
-    let ends = run_all_threads(rt, alloc, jobs, relay.state.signals(), &mut work, output);
+    let ends = run_all_threads(rt, alloc, jobs, relay.state.stopper(), &mut work, output);
     drop(work);
     records_of(alloc, ends)
 }

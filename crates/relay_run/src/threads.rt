@@ -12,7 +12,7 @@ use finished_run::FedLog;
 use locked_queues::{DoorRecord, OutletRecord};
 use mio_loops::WriteLog;
 use receivers::ReceiverControl;
-use run_state::{Signals, ThreadWork};
+use run_state::{Signals, Stopper, ThreadWork};
 use std::alloc::Global;
 use std::io::Write;
 use std::rt::Clock;
@@ -79,7 +79,7 @@ pub(crate) fn run_all_threads<
     rt: &R,
     alloc: Global,
     jobs: Jobs<J, K, G, H, L, V>,
-    signals: &Signals,
+    stopper: Stopper<'_>,
     work: &mut A,
     output: &mut W,
 ) -> ThreadEnds
@@ -87,7 +87,7 @@ pub(crate) fn run_all_threads<
         (W.contents output.old) (W.contents output.new) result.served }
 {
     let first = WithOutput { work, output };
-    let (ends, first) = run_threads(rt, alloc, jobs, signals, first);
+    let (ends, first) = run_threads(rt, alloc, jobs, stopper, first);
     // Taken apart, it ends here: then it is known what its output has.
     let WithOutput {
         work: _work,
@@ -115,14 +115,13 @@ fn run_threads<
     rt: &R,
     alloc: Global,
     jobs: Jobs<J, K, G, H, L, V>,
-    signals: &Signals,
+    stopper: Stopper<'_>,
     first: WithOutput<'a, 'p, A, W>,
 ) -> (ThreadEnds, WithOutput<'a, 'p, A, W>)
     ensures same { result.1.output.ghost_name ≡ first.entry.output.ghost_name }
     ensures served { Served (opening (A.is_first first.entry.work.now))
         (W.contents first.entry.output.now) (W.contents result.1.output.now) result.0.served }
 {
-    let link = SignalLink { signals };
     thread::scope(
         thread::scope_env(),
         rt,
@@ -135,7 +134,7 @@ fn run_threads<
                 (W.contents first.entry.output.now) (W.contents result.1.output.now) result.0.served }
         {
             let WithOutput { work, output } = first;
-            let ends = run_in_scope(scope, rt, alloc, jobs, link, &mut *work, &mut *output);
+            let ends = run_in_scope(scope, rt, alloc, jobs, stopper, &mut *work, &mut *output);
             (ends, WithOutput { work, output })
         },
     )
@@ -161,17 +160,18 @@ fn run_in_scope<
     rt: &'s R,
     alloc: Global,
     jobs: Jobs<J, K, G, H, L, V>,
-    link: SignalLink<'s>,
+    stopper: Stopper<'s>,
     work: &mut A,
     output: &mut W,
 ) -> ThreadEnds
     ensures { Served (opening (A.is_first work.old))
         (W.contents output.old) (W.contents output.new) result.served }
 {
-    let started = start_all(scope, rt, alloc, jobs, link);
-    let are_begun = started.wait_for_begun(rt, link.signals);
+    let signals = stopper.signals();
+    let started = start_all(scope, rt, alloc, jobs, SignalLink { signals });
+    let are_begun = started.wait_for_begun(rt, signals);
     let served = serve_if(rt, alloc, are_begun, work, output);
-    end_threads(rt, alloc, link.signals, started, served, work)
+    end_threads(rt, alloc, stopper, started, served, work)
 }
 
 /// Starts a thread for each job.

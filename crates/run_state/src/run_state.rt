@@ -7,6 +7,7 @@ use crate::end_state::EndState;
 use crate::rest_notes::RestNotes;
 use crate::run_notes::RunNotes;
 use crate::signals::Signals;
+use crate::stopper::Stopper;
 use conf_text::Dest;
 use dest_queue::{Counts, EarlierCounts};
 use log_lines::{DestNotes, ReceiverNotes};
@@ -139,6 +140,11 @@ impl RunState {
     /// The signals between the threads.
     pub fn signals(&self) -> &Signals {
         &self.signals
+    }
+
+    /// Who tells the threads to stop: it is for the first one.
+    pub fn stopper(&self) -> Stopper<'_> {
+        Stopper::of(&self.signals)
     }
 
     /// What each receiver notes.

@@ -2,7 +2,7 @@
 
 ghost use Rattle.std.specs.Prelude.{◌≡◌, ◌^◌, nat_lt, if◌then◌else◌};
 
-use mio_loops::ReadinessFault;
+use mio_loops::{ReadinessFault, StopFlag};
 use std::rt::Clock;
 use std::sync::Wait;
 use std::sync::atomic::{AtomicBool, AtomicU64, AtomicUsize, Ordering};
@@ -12,24 +12,27 @@ use std::time::Duration;
 const PAUSE_MS: u64 = 1;
 
 /// Signals between the threads of a relay and the first one: that the receivers, the senders and at last those
-/// that watch both are to stop, and which receivers and senders have begun; and for whom a drain did not wait.
+/// that watch both are to stop, and which receivers and senders have begun; and for whom a drain did not wait. Who has only these
+/// stops nobody: [`Stopper`] does.
+///
+/// [`Stopper`]: crate::Stopper
 #[derive(Drop)]
 pub struct Signals {
-    receivers: AtomicBool,
+    pub(crate) receivers: AtomicBool,
     // The connections of the senders are files from now on.
-    spooling: AtomicBool,
-    senders: AtomicBool,
+    pub(crate) spooling: AtomicBool,
+    pub(crate) senders: AtomicBool,
     // The keeper of the files is to stop; before that it is to do nothing, and does nothing.
-    keeper: AtomicBool,
-    halting: AtomicBool,
+    pub(crate) keeper: AtomicBool,
+    pub(crate) halting: AtomicBool,
     halted: AtomicBool,
-    watchers: AtomicBool,
+    pub(crate) watchers: AtomicBool,
     // The status server is to stop.
-    status: AtomicBool,
+    pub(crate) status: AtomicBool,
     // What the threads hold goes on in another run.
-    handing: AtomicBool,
+    pub(crate) handing: AtomicBool,
     // How many of these stops were told: a thread that sleeps wakes when that changes.
-    stops: AtomicU64,
+    pub(crate) stops: AtomicU64,
     // The destinations that a drain gave up, a bit each.
     stuck: AtomicU64,
     slow: AtomicU64,
@@ -61,24 +64,18 @@ impl Signals {
         }
     }
 
-    /// The stop flag of the receivers.
-    pub fn receivers(&self) -> &AtomicBool {
-        &self.receivers
+    /// Whether the receivers are to stop.
+    pub fn receivers(&self) -> StopSign<'_> {
+        StopSign {
+            flag: &self.receivers,
+        }
     }
 
-    /// The stop flag of the senders. Once it is set they close their connections.
-    pub fn senders(&self) -> &AtomicBool {
-        &self.senders
-    }
-
-    /// The stop flag of the threads that watch receivers and senders. It is set when all of these have ended.
-    pub fn watchers(&self) -> &AtomicBool {
-        &self.watchers
-    }
-
-    /// From now on what the threads hold goes on in the next run: nothing is closed, and nothing ends but this run.
-    pub fn begin_handing(&self) {
-        self.handing.store(true, Ordering::SeqCst);
+    /// Whether the senders are to stop. Then they close their connections.
+    pub fn senders(&self) -> StopSign<'_> {
+        StopSign {
+            flag: &self.senders,
+        }
     }
 
     /// Whether what the threads hold goes on in the next run.
@@ -86,39 +83,14 @@ impl Signals {
         self.handing.load(Ordering::SeqCst)
     }
 
-    /// Tells the receivers to stop.
-    pub fn stop_receivers(&self) {
-        self.tell(&self.receivers);
-    }
-
-    /// Tells the senders to write to files what they have not sent.
-    pub fn begin_spooling(&self) {
-        self.spooling.store(true, Ordering::SeqCst);
-    }
-
     /// Whether the senders write to files what they have not sent.
     pub fn is_spooling(&self) -> bool {
         self.spooling.load(Ordering::SeqCst)
     }
 
-    /// Tells the senders to stop.
-    pub fn stop_senders(&self) {
-        self.tell(&self.senders);
-    }
-
-    /// Tells the keeper of the files to stop: the senders have ended.
-    pub fn stop_keeper(&self) {
-        self.keeper.store(true, Ordering::SeqCst);
-    }
-
     /// Whether the keeper of the files is to stop.
     pub fn keeper_stops(&self) -> bool {
         self.keeper.load(Ordering::SeqCst)
-    }
-
-    /// Has the keeper of the files do nothing before it is to stop, or go on as before.
-    pub fn halt_keeper(&self, is_to_halt: bool) {
-        self.halting.store(is_to_halt, Ordering::SeqCst);
     }
 
     /// Whether the keeper of the files is to do nothing.
@@ -136,26 +108,9 @@ impl Signals {
         self.halted.load(Ordering::SeqCst)
     }
 
-    /// Tells the status server to stop, before the others: another run follows, and nothing is to wait for it meanwhile.
-    pub fn stop_status(&self) {
-        self.tell(&self.status);
-    }
-
     /// Whether the status server is to stop.
     pub fn status_stops(&self) -> bool {
         self.status.load(Ordering::SeqCst) || self.watchers_stop()
-    }
-
-    /// Tells the threads that watch to stop.
-    pub fn stop_watchers(&self) {
-        self.tell(&self.watchers);
-    }
-
-    /// Sets a stop flag, and wakes the threads that sleep until a stop.
-    fn tell(&self, flag: &AtomicBool) {
-        flag.store(true, Ordering::SeqCst);
-        let _before = self.stops.fetch_add(1, Ordering::SeqCst);
-        self.stops.wake_all();
     }
 
     /// How many stops were told.
@@ -238,6 +193,18 @@ impl Signals {
             rt.sleep(Duration::from_millis(PAUSE_MS));
         }
         unreachable!()
+    }
+}
+
+/// Whether a thread is to stop.
+#[derive(Clone, Copy)]
+pub struct StopSign<'s> {
+    flag: &'s AtomicBool,
+}
+
+impl StopFlag for StopSign<'_> {
+    fn is_set(&self) -> bool {
+        self.flag.load(Ordering::SeqCst)
     }
 }
 

@@ -148,5 +148,5 @@ where
         limit,
         supply,
     };
-    send_batches(rt, alloc, sender, times, signals.senders())
+    send_batches(rt, alloc, sender, times, &signals.senders())
 }
