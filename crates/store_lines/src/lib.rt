@@ -11,6 +11,7 @@
 #![tactic(auto)]
 
 mod counted_connector;
+mod dest_rests;
 mod dest_slots;
 mod diversions;
 mod divert_connector;

@@ -1,19 +1,17 @@
 //! Connections behind what ended runs left.
 
-ghost use Rattle.std.specs.Prelude.{◌≡◌, Some, None, IfErr, IfSome, IsSome};
-ghost use Rattle.std.specs.Io.KnownBytes.{Appends};
-ghost use Rattle.dest_writer.specs.Counting.{stream_of};
-ghost use Rattle.dest_writer.specs.declared.counting.Counting.{Counting};
+ghost use Rattle.std.specs.Prelude.{◌≡◌, IfErr};
 ghost use Rattle.dest_writer.specs.Writer.{bytes_left};
-ghost use Rattle.handover.specs.Rest.{RestState, rest_text, left_text};
+ghost use Rattle.handover.specs.Rest.{left_text};
 
-use crate::left_dest::{counts_of, socket_of};
+use crate::dest_rests::DestRests;
+use crate::left_dest::socket_of;
 use crate::rest_files::RestFiles;
 use crate::sender_places::Share;
 use crate::spool_left::SpooledRest;
 use dest_queue::QueuedPoints;
 use dest_writer::GatherBuf;
-use handover::{Rest, RestConnection, RestTurn};
+use handover::{Rest, RestConnection};
 use mio_loops::{LeftBatch, LeftWriter, ReadinessFault};
 use relay_base::{DestId, MOST_DESTINATIONS, NoMemory, add};
 use run_state::{RestNotes, Signals};
@@ -29,56 +27,6 @@ pub(crate) struct SenderRests<'n, W> {
     // None if there is no place.
     gathered: Option<GatherBuf>,
     notes: &'n [RestNotes],
-}
-
-/// What ended runs left for a destination: a rest, if there is one, and one that had no room behind it, for which the first is to
-/// go to the file.
-#[derive(Drop)]
-struct DestRests<W> {
-    rest: Option<RestConnection<W>>,
-    later: Option<Rest>,
-    // Whether the file was not tried yet.
-    may_spool: bool,
-}
-
-impl<W: Drop> DestRests<W> {
-    /// Nothing is left.
-    fn none() -> DestRests<W> {
-        DestRests {
-            rest: None,
-            later: None,
-            may_spool: false,
-        }
-    }
-
-    /// The later rest is the first one now, if there is one, on this connection, if there is one. Returns the connection if there
-    /// is no rest.
-    fn go_on(&mut self, sink: Option<W>) -> Option<W> {
-        let Some(later) = self.later.take() else {
-            return sink;
-        };
-        let mut connection = RestConnection::new(later);
-        if let Some(sink) = sink {
-            connection.begin(sink);
-        }
-        self.rest = Some(connection);
-        None
-    }
-
-    /// Notes how much is left.
-    fn note(&self, notes: Option<&RestNotes>) {
-        let Some(notes) = notes else {
-            return;
-        };
-        let (later, _none_in_hand) = counts_of(&self.later);
-        match &self.rest {
-            Some(rest) => {
-                let rest = rest.rest();
-                notes.note(rest.queued().saturating_add(later), rest.in_hand());
-            }
-            None => notes.note(later, 0),
-        }
-    }
 }
 
 impl<'n, W: Drop> SenderRests<'n, W> {
@@ -108,20 +56,8 @@ impl<'n, W: Drop> SenderRests<'n, W> {
     /// From now on this rest of a destination is to be sent, and then the later one, if there is one: the connection that its
     /// writer had goes on, if it is there.
     pub(crate) fn begin(&mut self, place: usize, rest: Rest, later: Option<Rest>, sink: Option<W>) {
-        let mut rest = rest;
-        if sink.is_none() {
-            rest.lose();
-        }
-        let mut connection = RestConnection::new(rest);
-        if let Some(sink) = sink {
-            connection.go_on(sink);
-        }
         if let Some(dest) = self.dests.get_mut(place) {
-            *dest = DestRests {
-                rest: Some(connection),
-                may_spool: later.is_some(),
-                later,
-            };
+            *dest = DestRests::begin(rest, later, sink);
         }
     }
 
@@ -204,9 +140,7 @@ impl<'n, W: Drop> SenderRests<'n, W> {
 
     /// Takes the rest of a destination, its connection, if there is one, and the later rest, if there is one.
     fn take(&mut self, place: usize) -> Option<(Rest, Option<W>, Option<Rest>)> {
-        let dest = self.dests.get_mut(place)?;
-        let (rest, sink) = dest.rest.take()?.into_parts();
-        Some((rest, sink, dest.later.take()))
+        self.dests.get_mut(place)?.take()
     }
 
     /// Takes the first rest of a destination, once, if it is to go to the file. Its connection, if there is one, is given up.
@@ -255,40 +189,9 @@ impl<W: Write + Drop> SenderRests<'_, W> {
             return None;
         };
         let dest = self.dests.get_mut(place)?;
-        let sink = match send_rest(&mut dest.rest, gathered) {
-            Some(sink) => dest.go_on(Some(sink)),
-            None => None,
-        };
+        let sink = dest.send(gathered);
         dest.note(self.notes.get(place));
         sink
-    }
-}
-
-/// Sends some of a rest, if there is one. Returns the connection once it took the whole rest, which is over then.
-fn send_rest<W: Write + Drop>(
-    slot: &mut Option<RestConnection<W>>,
-    gathered: &mut GatherBuf,
-) -> Option<W>
-    ensures whole { IfSome result (λ sink. (rest : RestState W) × (had : Counting W)
-        × (slot.old ≡ Some rest) × (rest.sink ≡ Some had)
-        × Appends (W.contents (stream_of had)) (W.contents sink) (rest_text rest)) }
-    ensures over { IfSome result (λ _. slot.new ≡ None) }
-    // Otherwise the rest stays, also after a loss.
-    ensures stays { result ≡ None → IsSome slot.old → IsSome slot.new }
-{
-    let Some(left) = slot else {
-        return None;
-    };
-    match left.send(gathered) {
-        RestTurn::Over(sink) => {
-            *slot = None;
-            Some(sink)
-        }
-        RestTurn::Lost => {
-            left.lose();
-            None
-        }
-        RestTurn::Kept => None,
     }
 }
 
