@@ -2,7 +2,8 @@
 
 use crate::rest_connector::SenderRests;
 use crate::sender_places::Share;
-use crate::spool_connector::{SenderSpool, SpoolSink};
+use crate::sender_spool::SenderSpool;
+use crate::spool_connector::SpoolSink;
 use crate::spool_orders::SpoolOrders;
 use senders::Connect;
 use spool::SpoolDisk;

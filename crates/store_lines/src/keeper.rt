@@ -1,7 +1,8 @@
 //! Who keeps the files of a run that diverts destinations.
 
 use crate::diversions::Diversions;
-use crate::spool_connector::{KEEPER_END_S, SpoolConnector};
+use crate::spool_connector::SpoolConnector;
+use crate::spooled_dest::KEEPER_END_S;
 use relay_base::DestId;
 use run_state::Signals;
 use senders::{Connect, HalfClose, WakeGate};

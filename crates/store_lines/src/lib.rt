@@ -27,9 +27,11 @@ mod parting_job;
 mod rest_connector;
 mod rest_files;
 mod sender_places;
+mod sender_spool;
 mod spool_connector;
 mod spool_left;
 mod spool_orders;
+mod spooled_dest;
 
 pub use dest_slots::DestSlots;
 pub use diversions::{Diversions, DivertTo, QueueLevels};
