@@ -17,7 +17,7 @@ pub(crate) struct SpooledDest<W> {
     pub(crate) end: Option<FileEnd<W>>,
 }
 
-impl<W> SpooledDest<W> {
+impl<W: Drop> SpooledDest<W> {
     /// No files, and no connection.
     pub(crate) fn none() -> SpooledDest<W> {
         SpooledDest {
