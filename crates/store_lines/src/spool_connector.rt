@@ -249,7 +249,7 @@ where
     }
 
     fn end(&mut self) {
-        for place in 0..self.spool.dests.len() {
+        for place in 0..self.spool.dests() {
             self.leave(place);
         }
         self.connector.end();
@@ -290,7 +290,7 @@ where
             };
         };
         drop(sink);
-        let mut spooled = spool_rest(self.disk, alloc, rest, files, self.spool.limit);
+        let mut spooled = spool_rest(self.disk, alloc, rest, files, self.spool.limit());
         self.spool.begin(dest.0, spooled.files.take(), None);
         spooled
     }
