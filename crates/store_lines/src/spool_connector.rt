@@ -221,7 +221,7 @@ where
         if self.is_spooling(dest) {
             let files = self.spool.take_files(&self.disk, dest.0)?;
             let notes = self.spool.notes.get(dest.0);
-            let file = FileSink::new(self.disk, files, self.spool.limit, notes);
+            let file = FileSink::new(self.disk, files, self.spool.limit(), notes);
             return Some(SpoolSink::File(file));
         }
         Some(SpoolSink::Store(self.connect_behind_file(dest, millis)?))
