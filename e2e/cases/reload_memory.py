@@ -20,7 +20,7 @@ class Memory(Reloads):
     TRIES = 40  # of the growths
 
     def test_each_growth(self):
-        """The relay goes on as it was, or by the new files, or it ends with status 4: what it held is in its file then."""
+        """The relay goes on as it was, or by the new files, or it ends with status 4: what it held is in its file then, and it says so."""
         library = refused.compiled(os.fspath(self.folder))
         growths, tried = self.growths(library), 0
         self.assertGreater(growths, 0)
@@ -77,6 +77,8 @@ class Memory(Reloads):
                 self.assertEqual(relay.child.wait(1), 4)
                 relay.log.thread.join(LIMIT)
                 self.assertIn(b"relayd: no memory\n", relay.log.lines)
+                said = b"relay stopped, %d datapoints spooled\n" % self.COUNT
+                self.assertTrue({said, b"relayd: " + said} & set(relay.log.lines), relay.log.lines)
                 return "ended"
         else:
             self.assertIn(ran, (RELOADED, Ran(4, b"", b"relayd: no memory\n")))

@@ -234,6 +234,23 @@ class Short(Strained):
             os.remove(self.path("NO_ALARMS"))
             self.is_done(relay, store)
 
+    def test_what_was_put_aside_before_a_shortage(self):
+        """The log says so."""
+        spool, new = self.path("spool"), f"127.0.0.1:{free_ports(1)[0]}"
+        os.mkdir(spool)
+        path = os.path.join(spool, new)
+        with self.one(before=self.starved(), options=("--spool", spool)) as (relay, store):
+            with open(path, "wb") as file:
+                file.write(b"no end")
+            self.files(relay, [f"127.0.0.1:{store.port}", new])
+            self.switch("NO_ALARMS")
+            self.stays(relay, store, NO_DESCRIPTORS)
+            said = f"spool: {path}: no lines; it is {path}~aside now\n".encode()
+            self.wait_for(lambda: said in relay.log.lines, "the log says so")
+            self.assertNotIn(path, [os.readlink(it.path) for it in os.scandir(f"/proc/{relay.child.pid}/fd")])
+            os.remove(self.path("NO_ALARMS"))
+            self.is_done(relay, store)
+
     @unittest.skipIf(os.geteuid(), "only root can be another user")
     def test_a_limit_of_threads(self):
         """One thread more does for a reload, and another for each new name that is looked up."""

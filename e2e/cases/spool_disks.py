@@ -241,6 +241,73 @@ class Disks(Diversion):
             self.are_sent()
             self.over(relay)
 
+    def reload_that_adds(self, relay, dests):
+        """Begins a reload that adds the last of these destinations, the first of which a relay has. Gives its thread, and where its
+        end comes."""
+        ended = []
+        self.given({"config": relay.config.replace(dests[0], ", ".join(dests), 1), "rules": ALL.format(", ".join(dests)),
+                    "rewrite": None})
+        reload = threading.Thread(target=lambda: ended.append(self.run_words(("reload", "--admin", str(relay.admin)))))
+        reload.start()
+        return reload, ended
+
+    def test_a_reload_that_adds_a_store_on_a_disk_that_hangs(self):
+        """It is refused after ten seconds, in which commands are answered and the relay goes on. Once the disk goes on, what was opened
+        late is closed, the log says what was found, and a reload is done."""
+        child, _ = self.fuse()
+        stores = self.stores(2)
+        dests = [f"127.0.0.1:{it.port}" for it in stores]
+        lines = numbered(300)
+        self.write(dests[1], b"waits 1 1\n")
+        with self.spooling(dests[:1], "--log") as relay:
+            log = Log(relay.child.stderr)
+            words = "reload", "--admin", str(relay.admin)
+            with self.hanging(child):
+                reload, ended = self.reload_that_adds(relay, dests)
+                for turn in range(5):
+                    time.sleep(0.2)
+                    began = time.monotonic()
+                    self.assertEqual(len(relay.report()), 1)
+                    self.assertLess(time.monotonic() - began, 5)
+                    relay.lines(text_of(lines[turn * 20:(turn + 1) * 20]))
+                self.has_all(stores[0], lines[:100])
+                self.assertEqual(ended, [])
+                reload.join(LIMIT)
+                self.assertEqual(ended, [Ran(3, b"", b"relayd: spool: the disk does not answer within 10 seconds\n")])
+                self.assertEqual(self.run_words(words), Ran(3, b"", b"relayd: spool: an earlier reload still waits for the disk\n"))
+                relay.lines(text_of(lines[100:200]))
+                self.has_all(stores[0], lines[:200])
+                self.assertEqual(log.of(dests[1]), [])
+            self.wait_for(lambda: any(line.startswith(b"spool waits, 1 ") for line in log.of(dests[1])), "the log says what waits")
+            self.assertNotIn(self.path(dests[1]), self.open_files(relay))
+            self.assertEqual(len(relay.report()), 1)
+            self.assertEqual(self.run_words(words).status, 0)
+            relay.lines(text_of(lines[200:]))
+            self.has_all(stores[0], lines)
+            self.has_all(stores[1], [b"waits 1 1", *lines[200:]])
+            self.are_sent()
+            self.over(relay)
+
+    def test_a_stop_beside_a_reload_that_adds_a_store_on_a_disk_that_hangs(self):
+        """It is obeyed at once."""
+        child, _ = self.fuse()
+        dests = [f"127.0.0.1:{it.port}" for it in self.stores(2)]
+        with self.spooling(dests[:1], "--log") as relay, self.hanging(child):
+            reload, ended = self.reload_that_adds(relay, dests)
+            self.wait_for(lambda: awaits_disk(relay.child.pid), "the reload waits for the disk")
+            began = time.monotonic()
+            self.assertEqual(relay.command(b"stop"), b"stopping\n")
+            reload.join(LIMIT)
+            self.assertLess(time.monotonic() - began, 5)
+            self.assertEqual([ran.status for ran in ended], [3])
+            child.send_signal(signal.SIGCONT)
+            self.assertEqual(relay.child.wait(LIMIT), 0)
+
+    def open_files(self, relay):
+        """The paths of what a relay has open."""
+        folder = f"/proc/{relay.child.pid}/fd"
+        return [os.readlink(os.path.join(folder, name)) for name in os.listdir(folder)]
+
     @contextlib.contextmanager
     def hanging(self, child):
         """The disk that a process serves hangs meanwhile."""

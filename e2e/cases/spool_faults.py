@@ -190,6 +190,30 @@ class OpeningFiles(WithSpool):
                 self.wait_for(lambda it=store: it.lines() == lines, "the file is sent")
             self.settles(relay)
 
+    def test_what_was_put_aside_before_a_fault(self):
+        """It is said: by a start on standard error, by a relay whose reload is refused in its log."""
+        dests = [f"127.0.0.1:{port}" for port in free_ports(3)]
+        path, fault = self.path(dests[1]), f"spool: {self.path(dests[2])}: no regular file\n"
+        said = [f"spool: {path}: no lines; it is {path}~aside{number} now\n" for number in ("", ".1")]
+        os.mkdir(self.path(dests[2]))
+        self.write(dests[1], b"no end")
+        self.assertEqual(self.refused(dests[1:]), Ran(3, b"", f"relayd: {said[0]}relayd: {fault}".encode()))
+        self.write(dests[1], b"no end")
+        with self.spooling(dests[:1], "--log") as relay:
+            log = Log(relay.child.stderr)
+            self.given({"config": relay.config.replace(dests[0], ", ".join(dests), 1), "rules": ALL.format(", ".join(dests)),
+                        "rewrite": None})
+            words = ["reload", "--admin", str(relay.admin)]
+            for _ in range(2):
+                self.assertEqual(self.run_words(words), Ran(3, b"", f"relayd: {fault}".encode()))
+            self.wait_for(lambda: said[1].encode() in log.lines, "the log says so")
+            os.rmdir(self.path(dests[2]))
+            self.assertEqual(self.run_words(words).status, 0)
+            self.ends(relay)
+            log.thread.join(LIMIT)
+        self.assertEqual([line for line in log.lines if b"aside" in line], [said[1].encode()])
+        self.assertEqual(self.files(), [dests[1] + "~aside", dests[1] + "~aside.1"])
+
     def test_what_is_put_aside_replaces_nothing(self):
         """The second one has a number behind its name."""
         dest = f"127.0.0.1:{free_ports(1)[0]}"

@@ -4,7 +4,8 @@ use crate::marks::{print_answer, print_text};
 use finished_run::NoRecorder;
 use relay_base::NoMemory;
 use relay_files::{RelayFault, RunConfiguration, Source, Sources, Status};
-use relay_run::{RefusedReload, RelayRuntime, ReloadSource, RunOptions};
+use relay_run::{FilesAsked, RefusedReload, RelayRuntime, ReloadSource, RunOptions};
+use spool::{SpoolFiles, Unopened};
 use std::alloc::Global;
 use std::io::{Read, Sink, Write};
 use std::net::{
@@ -74,6 +75,15 @@ impl ReloadSource for NoFiles {
     }
 
     fn look(&self, _alloc: Global) -> Option<Result<RunConfiguration, RefusedReload>> {
+        None
+    }
+
+    fn open(&self, alloc: Global, asked: FilesAsked) -> Result<(), RefusedReload> {
+        drop(asked);
+        Err(RefusedReload::no_memory(alloc))
+    }
+
+    fn opened(&self) -> Option<Result<SpoolFiles, Unopened>> {
         None
     }
 

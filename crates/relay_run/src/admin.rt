@@ -1,30 +1,29 @@
 //! The admin port: how its commands are answered, and when the run ends.
 
-ghost use Rattle.std.specs.Prelude.{◌≡◌, true, length};
+ghost use Rattle.std.specs.Prelude.{◌≡◌, true};
 ghost use Rattle.std.specs.Option.{is_none};
 
+use crate::admin_turn::{READING_PAUSE_MS, take_turn};
+use crate::disk_waits::{NotPrepared, close_late_files, halt_keeper, open_files_of};
 use crate::end_waits::{DrainWait, EndWait, FilesWait, PartingWait};
 use crate::ended_run::EndedRecord;
 use crate::first_work::FirstWork;
-use crate::prepared_run::{PreparedRun, ReloadFrom, prepared_by};
+use crate::prepared_run::{PreparedRun, ReadyRun, ReloadFrom, prepared_by, ready_by};
 use crate::relay::Relay;
 use crate::reload_source::{READING_TIMEOUT_MS, RefusedReload, ReloadSource};
+use crate::report_source::ReportSource;
 use crate::spool_folder::SpoolFolder;
 use crate::start::Process;
-use admin_port::{AdminListener, Answers};
-use admin_report::{FileCounts, ReportLine, report_with_files};
+use admin_port::AdminListener;
 use finished_run::Recorder;
-use live_watch::WatchDesk;
-use locked_queues::{Queues, Set};
+use locked_queues::Set;
 use mio_loops::{SystemTimes, TimeSource};
 use receivers::{ClosingWait, ReceiverControl};
-use relay_base::{DestId, NoMemory, add, put};
-use relay_commands::LiveRoutes;
+use relay_base::put;
 use relay_files::RunConfiguration;
 use relay_ports::{FirstPorts, SystemTables};
 use relay_watchers::{LogEnd, StatusServer};
-use run_state::{DestSources, EndState};
-use spool::{SpoolDisk, Waiting, clock_seconds};
+use run_state::{EndState, RunEnd};
 use std::alloc::Global;
 use std::net::Net;
 use std::rt::Clock;
@@ -34,104 +33,11 @@ use std::thread::Threads;
 /// How many milliseconds a turn waits at most while there is no connection.
 const PAUSE_MS: u64 = 1_000;
 
-/// How many milliseconds a turn waits at most while the files of a reload are read.
-const READING_PAUSE_MS: u64 = 1;
-
 /// How many milliseconds a turn waits at most while somebody watches: so long what receivers hand over has room.
 const WATCHING_PAUSE_MS: u64 = 5;
 
 /// How many milliseconds a turn waits at most at the end of a run: so late is seen what it waits for.
 const END_PAUSE_MS: u64 = 1;
-
-/// What answers are made of: the queues of a relay with their destinations, the names of its files, its routes, and who opens
-/// watches.
-#[derive(Drop)]
-struct ReportSource<'x, B: Set, F> {
-    queues: &'x Queues<B>,
-    noted: DestSources<'x>,
-    files: &'x F,
-    routes: LiveRoutes<'x>,
-    desk: WatchDesk<'x>,
-    ghost all: { length noted.dests.now ≡ B.dests },
-}
-
-impl<'x, B: Set, F> ReportSource<'x, B, F> {
-    /// The queues of a relay, its files and its routes. A run that ends opens no watch.
-    fn new(relay: &'x Relay<B>, files: &'x F, is_ending: bool) -> ReportSource<'x, B, F> {
-        ReportSource {
-            queues: &relay.queues,
-            noted: relay.noted(),
-            files,
-            routes: LiveRoutes::new(&relay.configuration),
-            desk: desk_of(relay, is_ending),
-        }
-    }
-
-    /// The line of each destination, one after the other: not of one moment.
-    fn lines<R: Wait + Clock>(&self, rt: &R, alloc: Global) -> Result<Vec<ReportLine>, NoMemory> {
-        let clock = clock_seconds(rt);
-        let mut lines = Vec::new(alloc);
-        for place in 0..self.noted.dests.len() {
-            let counts = self.queues.counts(rt, DestId(place));
-            let line = ReportLine {
-                dest: self.noted.dests[place].clone()?,
-                counts: self.noted.counts_at(place, counts),
-                file: file_counts(self.noted.waiting_at(place), clock),
-            };
-            add(&mut lines, line)?;
-        }
-        Ok(lines)
-    }
-}
-
-/// Who opens the watches of a relay. A run that ends opens none.
-fn desk_of<B: Set>(relay: &Relay<B>, is_ending: bool) -> WatchDesk<'_> {
-    let configuration = &relay.configuration;
-    if is_ending {
-        WatchDesk::closed(configuration, &relay.watches)
-    } else {
-        WatchDesk::new(configuration, &relay.watches, relay.shape.receivers)
-    }
-}
-
-/// What a report says of the file of a destination at this second since 1970: nothing if nothing waits.
-fn file_counts(waiting: Waiting, clock: u64) -> Option<FileCounts> {
-    if waiting.bytes == 0 {
-        return None;
-    }
-    Some(FileCounts {
-        datapoints: waiting.datapoints,
-        bytes: waiting.bytes,
-        age: waiting.age(clock),
-    })
-}
-
-impl<'x, B: Set, F: ReloadSource, R: Wait + Clock> Answers<R> for ReportSource<'x, B, F> {
-    fn report(&self, rt: &R, alloc: Global) -> Result<Vec<u8>, NoMemory> {
-        let mut text = Vec::new(alloc);
-        report_with_files(alloc, self.lines(rt, alloc)?.as_slice(), &mut text)?;
-        Ok(text)
-    }
-
-    fn files(&self, alloc: Global) -> Result<Vec<u8>, NoMemory> {
-        Ok(self.files.names(alloc)?.into_bytes())
-    }
-
-    fn route(&mut self, alloc: Global, name: &[u8]) -> Result<Vec<u8>, NoMemory> {
-        match self.routes.answer(alloc, name)? {
-            Some(answer) => Ok(answer.into_bytes()),
-            None => Ok(Vec::new(alloc)),
-        }
-    }
-
-    fn watch(&mut self, alloc: Global, asked: &[u8], millis: u64) -> Result<Vec<u8>, NoMemory> {
-        self.desk.answer(alloc, asked, millis)
-    }
-
-    fn key(&self) -> Option<&[u8]> {
-        self.files.key()
-    }
-}
 
 /// The admin port of a relay, with what the first thread works on, who reads files for a reload, what all runs have in common,
 /// and who records runs.
@@ -211,11 +117,7 @@ struct Reading {
 }
 
 /// Answers commands until one is `stop`, or until another run is ready to follow, which is returned.
-fn answer_until_ended<
-    B: Set,
-    R: Wait + Clock + Net + SpoolDisk + SystemTables + Threads,
-    F: ReloadSource,
->(
+fn answer_until_ended<B: Set, R: Wait + Clock + Net + SystemTables + Threads, F: ReloadSource>(
     rt: &R,
     alloc: Global,
     relay: &Relay<B>,
@@ -230,7 +132,7 @@ fn answer_until_ended<
 }
 
 /// Answers commands by these answers until one is `stop`, or until another run is ready to follow, which is returned.
-fn answer_with<B: Set, R: Wait + Clock + Net + SpoolDisk + SystemTables + Threads, F: ReloadSource>(
+fn answer_with<B: Set, R: Wait + Clock + Net + SystemTables + Threads, F: ReloadSource>(
     rt: &R,
     alloc: Global,
     relay: &Relay<B>,
@@ -242,17 +144,17 @@ fn answer_with<B: Set, R: Wait + Clock + Net + SpoolDisk + SystemTables + Thread
     let files = watched.files;
     let mut reading = None;
     for _ in rt.forever() {
-        let millis = times.millis();
-        say_refusals(rt, alloc, relay, ports, millis);
-        watched.desk.drain(alloc, millis, times.moment());
         let pause = pause_of(reading, watched.desk.is_watching());
-        if ports.admin.take_turn(rt, alloc, watched, millis, pause) {
+        let is_stopped = take_turn(rt, alloc, relay, ports, watched, pause);
+        let millis = times.millis();
+        if is_stopped {
             if let Some(begun) = reading {
                 ports.admin.refuse_reload(begun.connection, millis);
             }
             return None;
         }
         let Some(begun) = reading else {
+            close_late_files(rt, relay, files);
             reading = begin_reading(alloc, &mut ports.admin, files, millis);
             continue;
         };
@@ -295,7 +197,7 @@ enum Following<B: Set> {
 }
 
 /// Makes ready the run of a reload, and has the keeper of the files do nothing more; or answers why not.
-fn follow_by<B: Set, R: Wait + Clock + Net + SpoolDisk + SystemTables + Threads, F: ReloadSource>(
+fn follow_by<B: Set, R: Wait + Clock + Net + SystemTables + Threads, F: ReloadSource>(
     rt: &R,
     alloc: Global,
     relay: &Relay<B>,
@@ -303,103 +205,62 @@ fn follow_by<B: Set, R: Wait + Clock + Net + SpoolDisk + SystemTables + Threads,
     watched: &mut ReportSource<'_, B, F>,
     reload: ReadReload<'_>,
 ) -> Following<B> {
-    let ReadReload {
-        read,
-        folder,
-        connection,
-    } = reload;
-    let times = SystemTimes::since(rt, relay.began);
-    let from = ReloadFrom {
-        relay,
-        ports,
-        folder,
-        connection,
-    };
-    let prepared = match next_run(rt, alloc, from, read) {
-        Ok(prepared) => prepared,
-        Err(refused) => {
-            refuse(alloc, &mut ports.admin, connection, refused, times.millis());
-            return Following::Nothing;
-        }
-    };
-    match halt_keeper(rt, alloc, relay, ports, watched) {
-        KeeperHalt::Halted => {
+    let connection = reload.connection;
+    let prepared = prepared_after(rt, alloc, relay, ports, watched, reload);
+    let millis = SystemTimes::since(rt, relay.began).millis();
+    match prepared {
+        Ok(prepared) => {
             keep_answer(alloc, &mut ports.admin, &prepared);
             Following::Run(prepared)
         }
-        KeeperHalt::NotInTime => {
-            drop(prepared);
-            let refused = RefusedReload::disk_hangs(alloc);
-            refuse(alloc, &mut ports.admin, connection, refused, times.millis());
+        Err(NotPrepared::Refused(refused)) => {
+            refuse(alloc, &mut ports.admin, connection, refused, millis);
             Following::Nothing
         }
-        KeeperHalt::Stopped => {
-            drop(prepared);
-            ports.admin.refuse_reload(connection, times.millis());
+        Err(NotPrepared::Stopped) => {
+            ports.admin.refuse_reload(connection, millis);
             Following::Stop
         }
     }
 }
 
-/// What became of the keeper of the files, which was to do nothing more before the run ends.
-#[derive(Clone, Copy)]
-enum KeeperHalt {
-    /// It does nothing, or there is none.
-    Halted,
-    /// A call to the disk has not ended in time. It goes on then.
-    NotInTime,
-    /// The relay was told to stop meanwhile. The keeper goes on.
-    Stopped,
-}
-
-/// Has the keeper of the files do nothing more before the run ends, so that nobody waits for the disk then, and answers commands by
-/// these answers until it does nothing.
-fn halt_keeper<B: Set, R: Wait + Clock + Net, F: ReloadSource>(
+/// Makes ready the run of a reload, with its files, and has the keeper of the files do nothing more.
+fn prepared_after<B: Set, R: Wait + Clock + Net + SystemTables + Threads, F: ReloadSource>(
     rt: &R,
     alloc: Global,
     relay: &Relay<B>,
     ports: &mut FirstPorts,
     watched: &mut ReportSource<'_, B, F>,
-) -> KeeperHalt {
-    if relay.shape.spool_size.is_none() {
-        return KeeperHalt::Halted;
+    reload: ReadReload<'_>,
+) -> Result<PreparedRun<B>, NotPrepared> {
+    let ReadReload {
+        read,
+        folder,
+        connection,
+    } = reload;
+    let mut ready = match ready_run(rt, alloc, relay, folder, read) {
+        Ok(ready) => ready,
+        Err(refused) => return Err(NotPrepared::Refused(refused)),
+    };
+    if let Err(ended) = open_files_of(rt, alloc, relay, ports, watched, &mut ready) {
+        drop(ready);
+        return Err(ended);
     }
-    let signals = relay.state.signals();
-    let times = SystemTimes::since(rt, relay.began);
-    let end = times.millis().saturating_add(READING_TIMEOUT_MS);
-    signals.halt_keeper(true);
-    relay.keeper_gate.wake_all();
-    for _ in rt.forever() {
-        if signals.is_keeper_halted() {
-            return KeeperHalt::Halted;
+    let from = ReloadFrom {
+        relay,
+        ports,
+        connection,
+    };
+    let prepared = match prepared_by(rt, alloc, from, ready) {
+        Ok(prepared) => prepared,
+        Err(refused) => return Err(NotPrepared::Refused(refused)),
+    };
+    match halt_keeper(rt, alloc, relay, ports, watched) {
+        Ok(()) => Ok(prepared),
+        Err(ended) => {
+            prepared.give_up(rt, relay);
+            Err(ended)
         }
-        let millis = times.millis();
-        let is_stopped = ports
-            .admin
-            .take_turn(rt, alloc, watched, millis, READING_PAUSE_MS);
-        if is_stopped || millis >= end {
-            signals.halt_keeper(false);
-            return if is_stopped {
-                KeeperHalt::Stopped
-            } else {
-                KeeperHalt::NotInTime
-            };
-        }
-    }
-    unreachable!()
-}
-
-/// Has the log say which connections were refused what they asked for, once a minute at most.
-fn say_refusals<B: Set, R: Wait>(
-    rt: &R,
-    alloc: Global,
-    relay: &Relay<B>,
-    ports: &mut FirstPorts,
-    millis: u64,
-) {
-    let refusals = ports.admin.refusals();
-    if let Some(line) = ports.said.line(alloc, refusals, millis) {
-        relay.late_news.put(rt, line);
     }
 }
 
@@ -461,14 +322,15 @@ fn read_for<F: ReloadSource>(
 }
 
 /// Makes ready the run of the configuration that was read, or says why not.
-fn next_run<B: Set, R: SpoolDisk + Net + SystemTables + Threads>(
+fn ready_run<B: Set, R: Net + Threads>(
     rt: &R,
     alloc: Global,
-    from: ReloadFrom<'_, B>,
+    relay: &Relay<B>,
+    folder: Option<SpoolFolder<'_>>,
     read: Result<RunConfiguration, RefusedReload>,
-) -> Result<PreparedRun<B>, RefusedReload> {
+) -> Result<ReadyRun<B>, RefusedReload> {
     match read {
-        Ok(configuration) => prepared_by(rt, alloc, from, configuration),
+        Ok(configuration) => ready_by(rt, alloc, relay, folder, configuration),
         Err(refused) => Err(refused),
     }
 }
@@ -501,7 +363,7 @@ fn refuse(
 
 impl<
     B: Set,
-    R: Wait + Clock + Net + SpoolDisk + SystemTables + Threads,
+    R: Wait + Clock + Net + SystemTables + Threads,
     L: Drop,
     F: ReloadSource,
     K: Recorder,
@@ -532,8 +394,14 @@ impl<
         }
     }
 
-    fn is_handing(&self, has_failed: bool) -> bool {
-        self.state.next.is_some() || has_failed && !self.relay.is_first()
+    fn end_of_run(&self, has_failed: bool) -> RunEnd {
+        if self.state.next.is_some() || has_failed && !self.relay.is_first() {
+            RunEnd::HandOver
+        } else if has_failed {
+            RunEnd::Fail
+        } else {
+            RunEnd::Stop
+        }
     }
 
     fn end_parting(&mut self, rt: &R, alloc: Global) {
@@ -570,6 +438,7 @@ impl<
         if let Some(end) = relay.state.end() {
             answer_until_drained(rt, alloc, &mut ports.admin, relay, files, end);
         }
+        close_late_files(rt, relay, files);
         say_last_refusals(rt, alloc, relay, ports);
     }
 
@@ -627,7 +496,7 @@ fn answer_until_drained<R: Wait + Clock + Net, B: Set, F: ReloadSource>(
     let draining = DrainWait::begin(relay, end, millis);
     answer_until_over(rt, alloc, listener, relay, files, draining);
     if end.is_spooled() {
-        relay.state.signals().begin_spooling();
+        relay.state.stopper().begin_spooling();
         relay.gate.wake_all();
         let millis = SystemTimes::since(rt, relay.began).millis();
         let writing = FilesWait::begin(relay, end, millis);

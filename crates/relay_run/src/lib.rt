@@ -11,10 +11,14 @@
 #![tactic(auto)]
 
 mod admin;
+mod admin_turn;
 mod closing;
+mod disk_waits;
 mod end_waits;
 mod ended_run;
 mod ending;
+mod failed_run;
+mod files_asked;
 mod first_work;
 mod inherited;
 mod keeper_setup;
@@ -26,6 +30,7 @@ mod receiver_setup;
 mod relay;
 mod relay_jobs;
 mod reload_source;
+mod report_source;
 mod run_command;
 mod run_levels;
 mod running;
@@ -42,6 +47,7 @@ mod thread_jobs;
 mod thread_records;
 mod threads;
 
+pub use files_asked::FilesAsked;
 pub use relay_ports::{
     RunOptions, StatusOptions, SystemTables, descriptors_needed, free_descriptors,
 };

@@ -14,6 +14,7 @@ use relay_base::{DestId, NoMemory, add};
 use relay_ports::{FirstPorts, Ports};
 use relay_watchers::{ReceiverLog, StatusServer};
 use run_state::{RestNotes, RunNotes};
+use spool::{DestSpool, SpoolFiles};
 use std::alloc::Global;
 use std::fmt::Write as _;
 use std::mem;
@@ -99,6 +100,7 @@ pub(crate) fn start_after(
         places,
         new_places,
         files,
+        news,
         ..
     } = prepared;
     let KeptByFirst {
@@ -109,11 +111,16 @@ pub(crate) fn start_after(
     if let Some(server) = &mut server {
         server.keep_dests(alloc, places.kept.as_slice());
     }
-    let mut news = files.news;
+    let mut news = news;
     // Without memory for that the log lacks it.
     let _said = say_drops(&mut news, ended);
     let stores_before = ended.slots.len().saturating_add(ended.gone.dests.len());
-    let (mut found, mut new_places) = (files.dests, new_places);
+    let SpoolFiles {
+        dests: mut found,
+        news: said,
+    } = files;
+    drop(said);
+    let mut new_places = new_places;
     new_places.inherit(ended, &places, &mut found);
     let drain_millis = process.options.drain().saturating_mul(1_000);
     new_places.add_gone(ended, millis.saturating_add(drain_millis));
@@ -220,7 +227,7 @@ impl NewPlaces {
         &mut self,
         ended: &mut EndedRun,
         places: &KeptPlaces,
-        files: &mut Vec<Option<spool::DestSpool>>,
+        files: &mut Vec<Option<DestSpool>>,
     ) {
         let kept = places.kept.as_slice();
         for place in 0..kept.len() {
@@ -288,7 +295,7 @@ fn left_for(
     ended: &mut EndedRun,
     kept: Option<DestId>,
     returned: Option<DestId>,
-    files: Option<spool::DestSpool>,
+    files: Option<DestSpool>,
 ) -> LeftDest {
     let known = match (kept, returned) {
         (Some(place), _) => Some(ended.slots.take(place.0)),

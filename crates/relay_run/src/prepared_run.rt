@@ -4,13 +4,14 @@
 
 ghost use Rattle.std.specs.Prelude.{◌≤◌};
 
+use crate::files_asked::FilesAsked;
 use crate::next_start::NewPlaces;
 use crate::relay::Relay;
 use crate::reload_source::RefusedReload;
 use crate::shape::Shape;
 use crate::shared_parts::SharedParts;
 use crate::shortage::{Needs, Shortage, try_needs};
-use crate::spool_folder::{SpoolFolder, open_new_files};
+use crate::spool_folder::{SpoolFolder, no_files};
 use admin_client::Refusal;
 use conf_text::{Dest, Settings};
 use config_changes::{
@@ -22,9 +23,10 @@ use queue_records::READERS_EACH;
 use relay_base::{DestId, MOST_DESTINATIONS, NoMemory, add};
 use relay_files::{RelayFault, RunConfiguration};
 use relay_ports::{FirstPorts, Inlet, SystemTables};
-use spool::{OpenFault, SpoolDisk, SpoolFiles};
+use spool::SpoolFiles;
 use std::alloc::Global;
 use std::net::Net;
+use std::sync::Wait;
 use std::thread::Threads;
 
 /// A run that is to follow the one that runs, and room for what that leaves.
@@ -34,10 +36,20 @@ pub(crate) struct PreparedRun<B: Set> {
     pub(crate) room: EndRoom<B>,
 }
 
+impl<B: Set> PreparedRun<B> {
+    /// The run does not follow: its files are closed, and the log says what was done in their folder.
+    pub(crate) fn give_up<R: Wait>(self, rt: &R, relay: &Relay<B>) {
+        let PreparedRun { next, room } = self;
+        drop(room);
+        let NextPlan { files, .. } = next;
+        close_files(rt, relay, files);
+    }
+}
+
 /// A run that is to follow the one that runs: its configuration, which was read and checked; what it receives with; the totals of its
 /// queues; what its threads share; where each of its destinations is among those of the run, and among those that are gone;
-/// their new places; the files of the others, and the first lines of the log; the line of the answer; and the connection that
-/// waits for that.
+/// their new places; the files of the others; the line of the answer, and with what is said of the files the first lines of the
+/// log; and the connection that waits for the answer.
 #[derive(Drop)]
 pub(crate) struct NextPlan {
     pub(crate) configuration: RunConfiguration,
@@ -48,33 +60,47 @@ pub(crate) struct NextPlan {
     pub(crate) new_places: NewPlaces,
     pub(crate) files: SpoolFiles,
     pub(crate) line: String,
+    pub(crate) news: String,
     pub(crate) connection: u64,
 }
 
-/// What a reload begins with: the relay that runs, the ports that the first thread keeps, the folder for what is not sent, if there
-/// is one, and the connection that waits for the answer.
+/// What a reload begins with: the relay that runs, the ports that the first thread keeps, and the connection that waits for the
+/// answer.
 #[derive(Drop)]
 pub(crate) struct ReloadFrom<'x, B: Set> {
     pub(crate) relay: &'x Relay<B>,
     pub(crate) ports: &'x FirstPorts,
-    pub(crate) folder: Option<SpoolFolder<'x>>,
     pub(crate) connection: u64,
 }
 
-/// Makes and holds what a run by a configuration needs before the one that runs ends, and tries what can be made only then.
-/// Refuses another setting of a port, and what the system refuses or is short of; then nothing has changed.
-pub(crate) fn prepared_by<B: Set, R: SpoolDisk + Net + SystemTables + Threads>(
+/// A run that may follow the one that runs: its configuration, and what it needs beside what is held for it.
+#[derive(Drop)]
+pub(crate) struct ReadyRun<B: Set> {
+    configuration: RunConfiguration,
+    made: MadeReady<B>,
+}
+
+impl<B: Set> ReadyRun<B> {
+    /// Takes which files are to be opened for it, if some are.
+    pub(crate) fn take_asked(&mut self) -> Option<FilesAsked> {
+        self.made.asked.take()
+    }
+
+    /// These are its files.
+    pub(crate) fn put_files(&mut self, files: SpoolFiles) {
+        self.made.files = files;
+    }
+}
+
+/// Makes ready what a run by a configuration needs of memory, and tries what can be made only once the one that runs has ended.
+/// Refuses another setting of a port, and what the system is short of; then nothing has changed.
+pub(crate) fn ready_by<B: Set, R: Net + Threads>(
     rt: &R,
     alloc: Global,
-    from: ReloadFrom<'_, B>,
+    relay: &Relay<B>,
+    folder: Option<SpoolFolder<'_>>,
     configuration: RunConfiguration,
-) -> Result<PreparedRun<B>, RefusedReload> {
-    let ReloadFrom {
-        relay,
-        ports,
-        folder,
-        connection,
-    } = from;
+) -> Result<ReadyRun<B>, RefusedReload> {
     if let Some(refused) = refusal_of(alloc, relay, &configuration) {
         drop(configuration);
         return Err(refused);
@@ -83,21 +109,51 @@ pub(crate) fn prepared_by<B: Set, R: SpoolDisk + Net + SystemTables + Threads>(
         drop(configuration);
         return Err(refused_for(alloc, shortage));
     }
-    let made = match made_ready(rt, alloc, relay, &configuration, folder) {
-        Ok(made) => made,
-        Err(fault) => {
+    match made_ready(alloc, relay, &configuration, folder) {
+        Ok(made) => Ok(ReadyRun {
+            configuration,
+            made,
+        }),
+        Err(NoMemory) => {
             drop(configuration);
-            return Err(refused_for_file(alloc, fault));
+            Err(RefusedReload::no_memory(alloc))
         }
-    };
-    match held_for(rt, alloc, relay, ports, &made.places) {
+    }
+}
+
+/// Makes and holds what a run needs that is ready, before the one that runs ends. Refuses what the system is short of: then its
+/// files are closed, and the log says what was done in their folder.
+pub(crate) fn prepared_by<B: Set, R: Net + SystemTables + Wait>(
+    rt: &R,
+    alloc: Global,
+    from: ReloadFrom<'_, B>,
+    ready: ReadyRun<B>,
+) -> Result<PreparedRun<B>, RefusedReload> {
+    let ReloadFrom {
+        relay,
+        ports,
+        connection,
+    } = from;
+    let ReadyRun {
+        configuration,
+        made,
+    } = ready;
+    match held_for(rt, alloc, relay, ports, &made) {
         Ok(held) => Ok(prepared_for(configuration, made, held, connection)),
         Err(shortage) => {
             drop(configuration);
-            drop(made);
+            let MadeReady { files, .. } = made;
+            close_files(rt, relay, files);
             Err(refused_for(alloc, shortage))
         }
     }
+}
+
+/// Closes the files of a run that does not follow. The log says what was done in their folder.
+fn close_files<B: Set, R: Wait>(rt: &R, relay: &Relay<B>, files: SpoolFiles) {
+    let SpoolFiles { dests, news } = files;
+    drop(dests);
+    relay.say(rt, news);
 }
 
 /// Why a run by a configuration cannot follow this one, whatever the system has: another setting of a port, or too many
@@ -116,7 +172,7 @@ fn refusal_of<B: Set>(
             alloc,
             "more than 64 destinations that are gone are still sent to\n",
         );
-        return Some(refused(alloc, Refusal::Device, text));
+        return Some(RefusedReload::with_text(alloc, Refusal::Device, text));
     }
     None
 }
@@ -130,15 +186,18 @@ fn prepared_for<B: Set>(
 ) -> PreparedRun<B> {
     let MadeReady {
         places,
+        asked,
         files,
         line,
         blank,
         room,
     } = made;
+    drop(asked);
     let Held {
         receivers,
         new_places,
         shared,
+        news,
     } = held;
     let next = NextPlan {
         configuration,
@@ -149,6 +208,7 @@ fn prepared_for<B: Set>(
         new_places,
         files,
         line,
+        news,
         connection,
     };
     PreparedRun { next, room }
@@ -173,18 +233,21 @@ fn lacked_by(list: &[Dest], dests: &[Dest]) -> usize {
 }
 
 /// What is held for a run that is to follow this one, beside its files: what it receives with, the places of its destinations, and what its
-/// threads share.
+/// threads share; and the first lines of its log.
 #[derive(Drop)]
 struct Held {
     receivers: Vec<Inlet>,
     new_places: NewPlaces,
     shared: SharedParts,
+    news: String,
 }
 
-/// What a run needs that is to follow this one, beside its configuration and what is held, and room for what this one leaves.
+/// What a run needs that is to follow this one, beside its configuration and what is held, and room for what this one leaves. Its
+/// files are open once they were asked for.
 #[derive(Drop)]
 struct MadeReady<B: Set> {
     places: KeptPlaces,
+    asked: Option<FilesAsked>,
     files: SpoolFiles,
     line: String,
     blank: BlankTotals,
@@ -198,49 +261,51 @@ pub(crate) struct KeptPlaces {
     pub(crate) returned: Vec<Option<DestId>>,
 }
 
-/// Makes ready what needs memory or files for a run by a configuration.
-fn made_ready<B: Set, R: SpoolDisk>(
-    rt: &R,
+/// Makes ready what needs memory for a run by a configuration.
+fn made_ready<B: Set>(
     alloc: Global,
     relay: &Relay<B>,
     configuration: &RunConfiguration,
     folder: Option<SpoolFolder<'_>>,
-) -> Result<MadeReady<B>, OpenFault> {
+) -> Result<MadeReady<B>, NoMemory> {
     let settings = configuration.settings();
     try_queues(alloc, settings, relay.shape.receivers)?;
-    let line = reload_line(alloc, &relay.configuration, configuration)?;
-    let places = kept_of(alloc, relay, settings.destinations())?;
-    let blank = BlankTotals::new(alloc)?;
-    let room = relay.queues.end_room(alloc)?;
     let dests = settings.destinations();
-    let files = new_files(rt, alloc, dests, &places, folder, line.as_str())?;
+    let line = reload_line(alloc, &relay.configuration, configuration)?;
+    let places = kept_of(alloc, relay, dests)?;
+    let asked = asked_of(alloc, dests, &places, folder)?;
     Ok(MadeReady {
-        places,
-        files,
+        asked,
+        files: no_files(alloc, dests.len())?,
         line,
-        blank,
-        room,
+        places,
+        blank: BlankTotals::new(alloc)?,
+        room: relay.queues.end_room(alloc)?,
     })
 }
 
-/// Makes what a run holds from before this one ends, whose destinations have these places here.
+/// Makes what a run holds from before this one ends for which this is ready.
 fn held_for<B: Set, R: Net + SystemTables>(
     rt: &R,
     alloc: Global,
     relay: &Relay<B>,
     ports: &FirstPorts,
-    places: &KeptPlaces,
+    made: &MadeReady<B>,
 ) -> Result<Held, Shortage> {
+    let news = first_lines(alloc, made.line.as_str(), made.files.news.as_str())?;
     let receivers = match ports.for_receivers(rt, alloc) {
         Ok(receivers) => receivers,
-        Err(fault) => return Err(shortage_of(fault)),
+        Err(fault) => {
+            drop(news);
+            return Err(shortage_of(fault));
+        }
     };
-    let Ok(new_places) = NewPlaces::after(alloc, relay, places) else {
-        drop(receivers);
+    let Ok(new_places) = NewPlaces::after(alloc, relay, &made.places) else {
+        drop((news, receivers));
         return Err(Shortage::Memory);
     };
     let shape = Shape {
-        dests: places.kept.len(),
+        dests: made.places.kept.len(),
         ..relay.shape
     };
     match SharedParts::new(rt, alloc, shape, new_places.may_be_gone()) {
@@ -248,13 +313,19 @@ fn held_for<B: Set, R: Net + SystemTables>(
             receivers,
             new_places,
             shared,
+            news,
         }),
         Err(fault) => {
-            drop(receivers);
+            drop((news, receivers));
             drop(new_places);
             Err(shortage_of(fault))
         }
     }
+}
+
+/// The first lines of the log of a run that follows: the line on the reload, and what is said of its files.
+fn first_lines(alloc: Global, line: &str, news: &str) -> Result<String, NoMemory> {
+    Ok(format!(in alloc; "{line}{news}")?)
 }
 
 /// Where each of these destinations is among those of a relay.
@@ -266,28 +337,21 @@ fn kept_of<B: Set>(alloc: Global, relay: &Relay<B>, new: &[Dest]) -> Result<Kept
     })
 }
 
-/// Opens the files of those of these destinations that are at no place. What is to be said of them is behind this line.
-fn new_files<R: SpoolDisk>(
-    rt: &R,
+/// The files of those of these destinations that are at no place, if there is a folder and such a destination.
+fn asked_of(
     alloc: Global,
     dests: &[Dest],
     places: &KeptPlaces,
     folder: Option<SpoolFolder<'_>>,
-    line: &str,
-) -> Result<SpoolFiles, OpenFault> {
-    let known = known_places(alloc, places)?;
-    let files = open_new_files(rt, alloc, dests, known.as_slice(), folder);
-    drop(known);
-    let SpoolFiles { dests: files, news } = files?;
-    let behind = format!(in alloc; "{line}{news}");
-    drop(news);
-    match behind {
-        Ok(news) => Ok(SpoolFiles { dests: files, news }),
-        Err(_) => {
-            drop(files);
-            Err(OpenFault::NoMemory)
-        }
+) -> Result<Option<FilesAsked>, NoMemory> {
+    let Some(folder) = folder else {
+        return Ok(None);
+    };
+    let are_known = known_places(alloc, places)?;
+    if !are_known.as_slice().contains(&false) {
+        return Ok(None);
     }
+    Ok(Some(FilesAsked::new(alloc, folder, dests, are_known)?))
 }
 
 /// Which destinations the run has, or has as gone.
@@ -331,7 +395,7 @@ fn reload_line(
 
 /// The refusal of another setting of a port.
 fn needs_restart(alloc: Global, change: FixedChange<'_>) -> RefusedReload {
-    refused(
+    RefusedReload::with_text(
         alloc,
         Refusal::Configuration,
         format!(in alloc; "{change}: needs a restart\n"),
@@ -350,26 +414,10 @@ fn shortage_of(fault: RelayFault) -> Shortage {
 fn refused_for(alloc: Global, shortage: Shortage) -> RefusedReload {
     match shortage {
         Shortage::Memory => RefusedReload::no_memory(alloc),
-        shortage => refused(alloc, Refusal::Device, format!(in alloc; "{shortage}\n")),
-    }
-}
-
-/// The refusal of a file of the spool that cannot be used.
-fn refused_for_file(alloc: Global, fault: OpenFault) -> RefusedReload {
-    match fault {
-        OpenFault::NoMemory => RefusedReload::no_memory(alloc),
-        OpenFault::File(file) => {
-            let text = format!(in alloc; "spool: {file}\n");
-            drop(file);
-            refused(alloc, Refusal::Device, text)
-        }
-    }
-}
-
-/// The refusal for this reason, or out of memory for its text.
-fn refused<E: Drop>(alloc: Global, refusal: Refusal, text: Result<String, E>) -> RefusedReload {
-    match text {
-        Ok(text) => RefusedReload { refusal, text },
-        Err(_) => RefusedReload::no_memory(alloc),
+        shortage => RefusedReload::with_text(
+            alloc,
+            Refusal::Device,
+            format!(in alloc; "{shortage}\n"),
+        ),
     }
 }

@@ -21,7 +21,7 @@ use relay_watchers::{LateNews, ReceiverLog, StatusServer};
 use run_state::{DestSources, EndOrders, RunState};
 use senders::WakeGate;
 use std::alloc::Global;
-use std::sync::Arc;
+use std::sync::{Arc, Wait};
 use std::time::Instant;
 use store_lines::{DestSlots, Diversions, GoneDests};
 
@@ -148,6 +148,15 @@ impl<B: Set> Relay<B> {
     {
         self.state
             .noted(self.configuration.settings().destinations())
+    }
+
+    /// The log says these lines, if there are some.
+    pub(crate) fn say<R: Wait>(&self, rt: &R, news: String) {
+        if news.is_empty() {
+            drop(news);
+        } else {
+            self.late_news.put(rt, news);
+        }
     }
 
     /// From now on the receivers hand their connections over.

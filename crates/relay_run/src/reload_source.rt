@@ -1,24 +1,32 @@
-//! Who reads the files of a configuration for a reload.
+//! Who reads the files of a configuration for a reload, and opens those of its destinations.
 
+use crate::files_asked::FilesAsked;
 use admin_client::Refusal;
 use relay_base::NoMemory;
 use relay_files::RunConfiguration;
+use spool::{OpenFault, SpoolFiles, Unopened};
 use std::alloc::Global;
 
-/// How many milliseconds the files of a reload may take, and the disk of the spool.
+/// How many milliseconds each call to a disk may take that a reload waits for.
 pub(crate) const READING_TIMEOUT_MS: u64 = 10_000;
 
-/// Who reads the files of a configuration for a reload, those that the relay began with, and has the key of the admin port. No
-/// call waits for a file.
+/// Who reads the files of a configuration for a reload, those that the relay began with, opens those of its destinations, and has
+/// the key of the admin port. No call waits for a disk.
 pub trait ReloadSource {
     /// The key that each command needs, if there is one.
     fn key(&self) -> Option<&[u8]>;
 
-    /// Begins to read the files again. Refuses while an earlier reading has not ended, and if out of memory.
+    /// Begins to read the files again. Refuses while something is read or opened for an earlier reload, and if out of memory.
     fn begin(&self, alloc: Global) -> Result<(), RefusedReload>;
 
     /// The configuration of the files, once they have been read; `None` before. Refuses what `check` refuses.
     fn look(&self, alloc: Global) -> Option<Result<RunConfiguration, RefusedReload>>;
+
+    /// Begins to open the files of destinations. Refuses as `begin` does.
+    fn open(&self, alloc: Global, asked: FilesAsked) -> Result<(), RefusedReload>;
+
+    /// The files of destinations, or why they are not open, once that is known; `None` before, and once it was taken.
+    fn opened(&self) -> Option<Result<SpoolFiles, Unopened>>;
 
     /// The answer to `files` (`admin_client::files_answer`); an empty one if the files cannot be named. Refuses if out of memory.
     fn names(&self, alloc: Global) -> Result<String, NoMemory>;
@@ -52,13 +60,31 @@ impl RefusedReload {
         RefusedReload::of_device(alloc, "spool: the disk does not answer within 10 seconds\n")
     }
 
+    /// A file of the spool cannot be used, for this fault.
+    pub(crate) fn of_file(alloc: Global, fault: OpenFault) -> RefusedReload {
+        match fault {
+            OpenFault::NoMemory => RefusedReload::no_memory(alloc),
+            OpenFault::File(file) => {
+                let text = format!(in alloc; "spool: {file}\n");
+                drop(file);
+                RefusedReload::with_text(alloc, Refusal::Device, text)
+            }
+        }
+    }
+
     /// A device does not do what is asked, for this reason.
     fn of_device(alloc: Global, reason: &str) -> RefusedReload {
-        match String::from_str(alloc, reason) {
-            Ok(text) => RefusedReload {
-                refusal: Refusal::Device,
-                text,
-            },
+        RefusedReload::with_text(alloc, Refusal::Device, String::from_str(alloc, reason))
+    }
+
+    /// A refusal for this reason, or out of memory for its text.
+    pub(crate) fn with_text<E: Drop>(
+        alloc: Global,
+        refusal: Refusal,
+        text: Result<String, E>,
+    ) -> RefusedReload {
+        match text {
+            Ok(text) => RefusedReload { refusal, text },
             Err(_) => RefusedReload::no_memory(alloc),
         }
     }

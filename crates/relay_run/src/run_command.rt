@@ -20,8 +20,8 @@ ghost use Rattle.relay_run.specs.RunEnd.{EndsARun, IfStopped, IfFollowed};
 
 use crate::admin::{FirstState, RunBefore};
 use crate::closing::write_end;
-use crate::ended_run::{EndedRun, ended_of};
-use crate::inherited::Inherited;
+use crate::ended_run::ended_of;
+use crate::failed_run::{spool_failed, spool_inherited};
 use crate::next_start::{KeptByFirst, start_after};
 use crate::prepared_run::PreparedRun;
 use crate::relay::{NAME, OpenRelay, Parts, Relay};
@@ -30,7 +30,7 @@ use crate::running::run_until_ended;
 use crate::runtime::RelayRuntime;
 use crate::spool_folder::{SpoolFolder, put_failures};
 use crate::start::{Process, Start};
-use crate::thread_records::{Records, RunLeft};
+use crate::thread_records::RunLeft;
 use finished_run::Recorder;
 use locked_queues::Set;
 use mio_loops::{SystemTimes, TimeSource};
@@ -42,7 +42,6 @@ use std::io::Write;
 use std::marker::Brand;
 use std::mem;
 use std::time::Instant;
-use store_lines::spool_slots;
 
 /// Runs a relay until its admin port takes `stop`, and settles.
 ///
@@ -264,8 +263,8 @@ fn run_relay<
         },
         Err(fault) => {
             drop(ports);
-            drop((log, server));
-            spool_failed(rt, alloc, relay, next, process);
+            drop(server);
+            spool_failed(rt, alloc, relay, next, process, log);
             return Err(fault);
         }
     };
@@ -374,65 +373,4 @@ fn follow<B: Set, R: RelayRuntime, L: Drop>(
         },
         number: number.saturating_add(1),
     }
-}
-
-/// Writes to files what ended runs left to one that could not be opened.
-fn spool_inherited<R: RelayRuntime>(
-    rt: &R,
-    alloc: Global,
-    inherited: Inherited,
-    process: &Process<'_>,
-) {
-    spool_slots(rt, alloc, &inherited.slots, process.file_limit());
-    spool_slots(rt, alloc, &inherited.gone.slots, process.file_limit());
-    drop(inherited);
-}
-
-/// Writes to files what a run held that failed, if it is one of a reload: that before, of which what the threads recorded could
-/// not be kept, or that behind, which could not begin.
-fn spool_failed<B: Set, R: RelayRuntime>(
-    rt: &R,
-    alloc: Global,
-    relay: Relay<B>,
-    next: Option<PreparedRun<B>>,
-    process: &Process<'_>,
-) {
-    let room = match next {
-        Some(PreparedRun { next, room }) => {
-            drop(next);
-            Some(room)
-        }
-        None if relay.is_first() => {
-            drop(relay);
-            return;
-        }
-        None => relay.queues.end_room(alloc).ok(),
-    };
-    let Some(room) = room else {
-        spool_slots(rt, alloc, &relay.slots, process.file_limit());
-        spool_slots(rt, alloc, &relay.gone.slots, process.file_limit());
-        drop(relay);
-        return;
-    };
-    spool_ended(
-        rt,
-        alloc,
-        ended_of(alloc, relay, room, Records::none(alloc)),
-        process,
-    );
-}
-
-/// Writes to files what an ended run left that no other one can go on with.
-fn spool_ended<R: RelayRuntime>(rt: &R, alloc: Global, ended: EndedRun, process: &Process<'_>) {
-    let EndedRun {
-        record,
-        slots,
-        gone,
-        ..
-    } = ended;
-    drop(record);
-    spool_slots(rt, alloc, &slots, process.file_limit());
-    drop(slots);
-    spool_slots(rt, alloc, &gone.slots, process.file_limit());
-    drop(gone);
 }

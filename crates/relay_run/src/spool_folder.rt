@@ -2,10 +2,7 @@
 
 use conf_text::Dest;
 use relay_base::{NoMemory, add};
-use spool::{
-    DestSpool, FolderAt, OpenFault, SpoolDisk, SpoolFailure, SpoolFiles, SpoolNotes, open_all,
-    open_others,
-};
+use spool::{FolderAt, SpoolDisk, SpoolFailure, SpoolFiles, SpoolNotes, Unopened, open_all};
 use std::alloc::Global;
 use std::io;
 use std::sync::OnceLock;
@@ -29,7 +26,8 @@ pub struct SpoolFolder<'a> {
 }
 
 impl<'a> SpoolFolder<'a> {
-    fn at(&self) -> FolderAt<'a> {
+    /// The folder, as its files are opened.
+    pub(crate) fn at(&self) -> FolderAt<'a> {
         FolderAt {
             path: self.path,
             owner: self.owner,
@@ -38,10 +36,12 @@ impl<'a> SpoolFolder<'a> {
     }
 }
 
-/// What failed first in the folder of a relay: why it could not begin, or not write what was left at its end.
+/// What failed first in the folder of a relay: why it could not begin, or not write what was left at its end; and the lines for
+/// which there is no log.
 #[derive(Drop)]
 pub struct SpoolFault {
     text: OnceLock<String>,
+    news: OnceLock<String>,
 }
 
 impl SpoolFault {
@@ -49,6 +49,7 @@ impl SpoolFault {
     pub fn none() -> SpoolFault {
         SpoolFault {
             text: OnceLock::new(),
+            news: OnceLock::new(),
         }
     }
 
@@ -63,6 +64,21 @@ impl SpoolFault {
     pub fn text(&self) -> Option<&str> {
         match self.text.get() {
             Some(text) => Some(text.as_str()),
+            None => None,
+        }
+    }
+
+    /// These lines are for no log.
+    pub(crate) fn put_news(&self, news: String) {
+        if let Err(news) = self.news.try_set(news) {
+            drop(news);
+        }
+    }
+
+    /// The lines for which there is no log, if there are some.
+    pub fn news(&self) -> Option<&str> {
+        match self.news.get() {
+            Some(news) => Some(news.as_str()),
             None => None,
         }
     }
@@ -109,35 +125,24 @@ pub(crate) fn open_files<R: SpoolDisk>(
     alloc: Global,
     dests: &[Dest],
     folder: Option<SpoolFolder<'_>>,
-) -> Result<SpoolFiles, OpenFault> {
+) -> Result<SpoolFiles, Unopened> {
     match folder {
         Some(folder) => open_all(rt, alloc, folder.at(), dests),
-        None => Ok(SpoolFiles {
-            dests: no_files(alloc, dests.len())?,
-            news: String::new(alloc),
-        }),
+        None => match no_files(alloc, dests.len()) {
+            Ok(files) => Ok(files),
+            Err(NoMemory) => Err(Unopened::no_memory(alloc)),
+        },
     }
 }
 
-/// The files of the destinations that are not known, as [`open_files`] gives those of all; the files of the others are open.
-pub(crate) fn open_new_files<R: SpoolDisk>(
-    rt: &R,
-    alloc: Global,
-    dests: &[Dest],
-    are_known: &[bool],
-    folder: Option<SpoolFolder<'_>>,
-) -> Result<SpoolFiles, OpenFault> {
-    match folder {
-        Some(folder) => open_others(rt, alloc, folder.at(), dests, are_known),
-        None => open_files(rt, alloc, dests, None),
-    }
-}
-
-/// No files of so many destinations.
-fn no_files(alloc: Global, count: usize) -> Result<Vec<Option<DestSpool>>, NoMemory> {
-    let mut files = Vec::new(alloc);
+/// No files of so many destinations, of which nothing is to be said.
+pub(crate) fn no_files(alloc: Global, count: usize) -> Result<SpoolFiles, NoMemory> {
+    let mut dests = Vec::new(alloc);
     for _ in 0..count {
-        add(&mut files, None)?;
+        add(&mut dests, None)?;
     }
-    Ok(files)
+    Ok(SpoolFiles {
+        dests,
+        news: String::new(alloc),
+    })
 }

@@ -10,11 +10,12 @@ use crate::shared_parts::SharedParts;
 use crate::spool_folder::{SpoolFolder, open_files};
 use conf_text::Settings;
 use locked_queues::BlankTotals;
+use relay_base::NoMemory;
 use relay_files::{RelayFault, RunConfiguration};
 use relay_ports::{Ports, RunOptions, bind_all};
 use relay_watchers::StatusServer;
 use senders::HostThreads;
-use spool::OpenFault;
+use spool::{OpenFault, Unopened};
 use status_server::StatusListener;
 use std::alloc::Global;
 use std::time::Instant;
@@ -130,10 +131,16 @@ fn with_server(alloc: Global, ports: Ports<StatusListener>) -> Ports<StatusServe
     }
 }
 
-/// The fault of a start, where the files of the folder have this one: the folder says which file.
-fn put_fault(folder: Option<SpoolFolder<'_>>, fault: OpenFault) -> RelayFault
+/// The fault of a start, where the files of the folder are not open: the folder says which file cannot be used, and what was done
+/// before.
+fn put_fault(folder: Option<SpoolFolder<'_>>, unopened: Unopened) -> RelayFault
     ensures { is_start_fault result ≡ true }
 {
+    let Unopened { fault, news } = unopened;
+    match folder {
+        Some(folder) => folder.fault.put_news(news),
+        None => drop(news),
+    }
     match (folder, fault) {
         (Some(folder), OpenFault::File(text)) => {
             folder.fault.put(text);
@@ -159,7 +166,7 @@ fn begin_with<R: RelayRuntime>(
 {
     let (inherited, blank) = match found_by(rt, alloc, settings, shape, process) {
         Ok(found) => found,
-        Err(fault) => return Err(put_fault(process.folder, fault)),
+        Err(unopened) => return Err(put_fault(process.folder, unopened)),
     };
     match SharedParts::new(rt, alloc, *shape, false) {
         Ok(shared) => Ok((inherited, blank, shared)),
@@ -178,14 +185,19 @@ fn found_by<R: RelayRuntime>(
     settings: &Settings,
     shape: &Shape,
     process: &Process<'_>,
-) -> Result<(Inherited, BlankTotals), OpenFault> {
-    let files = open_files(rt, alloc, settings.destinations(), process.folder)?;
-    let inherited = Inherited::first(alloc, shape, files)?;
+) -> Result<(Inherited, BlankTotals), Unopened> {
+    let files = match open_files(rt, alloc, settings.destinations(), process.folder) {
+        Ok(files) => files,
+        Err(unopened) => return Err(unopened),
+    };
+    let Ok(inherited) = Inherited::first(alloc, shape, files) else {
+        return Err(Unopened::no_memory(alloc));
+    };
     match BlankTotals::new(alloc) {
         Ok(blank) => Ok((inherited, blank)),
-        Err(fault) => {
+        Err(NoMemory) => {
             drop(inherited);
-            Err(OpenFault::from(fault))
+            Err(Unopened::no_memory(alloc))
         }
     }
 }

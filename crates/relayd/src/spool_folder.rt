@@ -47,8 +47,8 @@ impl OwnFolder {
     }
 }
 
-/// How a run ends that ended so, and had this folder, if it had one: what failed there is said on standard error, and the status
-/// is that of a device then.
+/// How a run ends that ended so, and had this folder, if it had one: what is to be said of it, and what failed there, is said on
+/// standard error, and the status is that of a device if something failed.
 pub fn end_with_fault(
     rt: &HostRuntime,
     own: &Option<OwnFolder>,
@@ -57,10 +57,15 @@ pub fn end_with_fault(
     let Some(own) = own else {
         return ended;
     };
+    if let Some(news) = own.fault.news() {
+        for line in news.lines() {
+            say(rt, line);
+        }
+    }
     let Some(text) = own.fault.text() else {
         return ended;
     };
-    say(rt, text);
+    say_fault(rt, text);
     match ended {
         Ok(Status::Done) | Err(RelayFault::Output) => Ok(Status::DeviceFault),
         ended => ended,
@@ -190,10 +195,17 @@ fn say_failed(rt: &HostRuntime, path: &str, error: &io::Error) {
     }
 }
 
-/// Writes a line on standard error, if it has room there.
-fn say(rt: &HostRuntime, text: &str) {
+/// Writes a line about what failed on standard error, if it has room there.
+fn say_fault(rt: &HostRuntime, text: &str) {
     if rt.error_has_room(file_limit(rt), LONGEST_LINE) {
         let _ = eprintln!(rt; "relayd: spool: {text}");
+    }
+}
+
+/// Writes a line on standard error, if it has room there.
+fn say(rt: &HostRuntime, line: &str) {
+    if rt.error_has_room(file_limit(rt), LONGEST_LINE) {
+        let _ = eprintln!(rt; "relayd: {line}");
     }
 }
 
