@@ -133,23 +133,25 @@ class SendingAFile(WithSpool):
 class OpeningFiles(WithSpool):
     """A start looks at the files."""
 
-    def is_refused(self, dest, why):
-        """A relay with a file that cannot be used does not begin, and names it with the reason."""
+    def is_refused(self, dest, why, *news):
+        """A relay with a file that cannot be used does not begin, and names it with the reason, behind what it found before."""
         ran = self.refused([dest])
-        self.assertEqual(ran, Ran(3, b"", f"relayd: spool: {self.path(dest)}: {why}\n".encode()))
+        lines = [*news, f"relayd: spool: {self.path(dest)}: {why}"]
+        self.assertEqual(ran, Ran(3, b"", "".join(f"{line}\n" for line in lines).encode()))
 
     def test_what_is_no_regular_file(self):
         """A link, a FIFO and a directory are named, stay, and are not followed or waited for."""
         dest = f"127.0.0.1:{free_ports(1)[0]}"
         self.write("target", b"a 1 1\n")
+        stranger = f"relayd: spool: {self.path('target')}: of no destination in DESTINATIONS; it stays"
         os.symlink(self.path("target"), self.path(dest))
-        self.is_refused(dest, "a link")
+        self.is_refused(dest, "a link", stranger)
         os.remove(self.path(dest))
         os.mkfifo(self.path(dest))
-        self.is_refused(dest, "no regular file")
+        self.is_refused(dest, "no regular file", stranger)
         os.remove(self.path(dest))
         os.mkdir(self.path(dest))
-        self.is_refused(dest, "no regular file")
+        self.is_refused(dest, "no regular file", stranger)
         self.assertEqual(self.files(), [dest, "target"])
 
     def test_the_lock_is_no_regular_file(self):
