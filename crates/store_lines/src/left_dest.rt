@@ -1,6 +1,6 @@
 //! What is left for a destination between two runs.
 
-ghost use Rattle.std.specs.Prelude.{◌≡◌, Some, None, IfSome};
+ghost use Rattle.std.specs.Prelude.{◌≡◌, Some, None, IfSome, MatchOption};
 
 use handover::Rest;
 use relay_base::DestId;
@@ -28,13 +28,17 @@ pub struct LeftDest {
 
 impl LeftDest {
     /// Nothing.
-    pub fn none() -> LeftDest {
+    pub fn none() -> LeftDest
+        ensures rests { (result.rest ≡ None) × (result.later ≡ None) }
+        ensures files { (result.files ≡ None) × (result.lines ≡ None) × (result.socket ≡ None) }
+    {
         LeftDest::with_files(None)
     }
 
     /// Only files.
     pub fn with_files(files: Option<DestSpool>) -> LeftDest
-        ensures { (result.files ≡ files) × (result.rest ≡ None) × (result.later ≡ None) }
+        ensures files { (result.files ≡ files) × (result.lines ≡ None) × (result.socket ≡ None) }
+        ensures rests { (result.rest ≡ None) × (result.later ≡ None) }
     {
         LeftDest {
             rest: None,
@@ -88,7 +92,15 @@ impl LeftDest {
     }
 
     /// Takes the files, with the lines that are behind them, and the socket that the earlier one goes out on, if there is one.
-    pub(crate) fn take_files(&mut self) -> LeftDest {
+    pub(crate) fn take_files(&mut self) -> LeftDest
+        ensures files { (result.files ≡ self.old.files) × (result.lines ≡ self.old.lines) }
+        ensures rests { (result.rest ≡ None) × (result.later ≡ None) }
+        ensures left { (self.new.rest ≡ self.old.rest) × (self.new.later ≡ self.old.later)
+            × (self.new.files ≡ None) × (self.new.lines ≡ None) }
+        // The socket is there once.
+        ensures socket { MatchOption result.socket (self.new.socket ≡ self.old.socket)
+            (λ _. (result.socket ≡ self.old.socket) × (self.new.socket ≡ None)) }
+    {
         let socket = if self.is_behind_keeper() {
             self.socket.take()
         } else {
@@ -104,7 +116,15 @@ impl LeftDest {
     }
 
     /// Takes all but the files, the lines that are behind them, and the socket that the earlier one goes out on, if there is one.
-    pub(crate) fn take_rests(&mut self) -> LeftDest {
+    pub(crate) fn take_rests(&mut self) -> LeftDest
+        ensures rests { (result.rest ≡ self.old.rest) × (result.later ≡ self.old.later) }
+        ensures files { (result.files ≡ None) × (result.lines ≡ None) }
+        ensures left { (self.new.files ≡ self.old.files) × (self.new.lines ≡ self.old.lines)
+            × (self.new.rest ≡ None) × (self.new.later ≡ None) }
+        // The socket is there once.
+        ensures socket { MatchOption result.socket (self.new.socket ≡ self.old.socket)
+            (λ _. (result.socket ≡ self.old.socket) × (self.new.socket ≡ None)) }
+    {
         let socket = if self.is_behind_keeper() {
             None
         } else {
