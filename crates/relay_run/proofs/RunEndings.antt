@@ -13,10 +13,10 @@ use Rattle.relay_files.specs.declared.fault.RelayFault.{RelayFault}
 use Rattle.relay_files.specs.declared.fault.RelayFault.TheVariants.{Output, NoMemory}
 use Rattle.relay_ports.specs.StartFault.{is_start_fault}
 use Rattle.relay_run.specs.Closing.{closing_line, output_fault}
-use Rattle.relay_run.specs.RunEnd.{IfStopped, IfFollowed}
+use Rattle.relay_run.specs.AfterRun.{IfStopped, IfFollowed}
 use Rattle.relay_run.specs.declared.run_command.NextRun.{NextRun}
-use Rattle.relay_run.specs.declared.run_command.RunEnd.{RunEnd}
-use Rattle.relay_run.specs.declared.run_command.RunEnd.TheVariants as end
+use Rattle.relay_run.specs.declared.run_command.AfterRun.{AfterRun}
+use Rattle.relay_run.specs.declared.run_command.AfterRun.TheVariants as end
 use Rattle.relay_files.specs.declared.fault.Status.{Status}
 use Rattle.relay_run.specs.Running.{ready_line, opening, run_text, is_output_fault, Served, FailsBeforeClosing, ClosesWith, IsThreadFault, RunEnds, RunFails, AtStart, AtLines, OfThread, RelayFails}
 
@@ -134,16 +134,16 @@ module _ {A E : Type 0} where
   on_ok-is r holds value is on = subst (λ (t : Result A E). OnOk t holds) is on
 
 module _ {L : Type 0} where
-  pub stopped-is : (e : RunEnd L) (holds : Status → Type 0) (status : Status) → e ≡ end.Stopped status → IfStopped e holds → holds status
-  stopped-is e holds status is h = subst (λ (t : RunEnd L). IfStopped t holds) is h
+  pub stopped-is : (e : AfterRun L) (holds : Status → Type 0) (status : Status) → e ≡ end.Stopped status → IfStopped e holds → holds status
+  stopped-is e holds status is h = subst (λ (t : AfterRun L). IfStopped t holds) is h
 
-  pub followed-is : (e : RunEnd L) (holds : NextRun L → Type 0) (next : NextRun L) → e ≡ end.Followed next → IfFollowed e holds → holds next
-  followed-is e holds next is h = subst (λ (t : RunEnd L). IfFollowed t holds) is h
+  pub followed-is : (e : AfterRun L) (holds : NextRun L → Type 0) (next : NextRun L) → e ≡ end.Followed next → IfFollowed e holds → holds next
+  followed-is e holds next is h = subst (λ (t : AfterRun L). IfFollowed t holds) is h
 
-  pub stopped-weaker : (e : RunEnd L) (holds more : Status → Type 0) → ((status : Status) → holds status → more status) → IfStopped e holds → IfStopped e more
+  pub stopped-weaker : (e : AfterRun L) (holds more : Status → Type 0) → ((status : Status) → holds status → more status) → IfStopped e holds → IfStopped e more
   stopped-weaker (end.Stopped status) holds more weaker is = weaker status is
   stopped-weaker (end.Followed next) holds more weaker is = tt
 
-  pub never-followed : (e : RunEnd L) (more : NextRun L → Type 0) → IfFollowed e (λ next. ⊥) → IfFollowed e more
+  pub never-followed : (e : AfterRun L) (more : NextRun L → Type 0) → IfFollowed e (λ next. ⊥) → IfFollowed e more
   never-followed (end.Stopped status) more never = tt
   never-followed (end.Followed next) more never = absurd never

@@ -1,3 +1,3 @@
 pub mod Closing
-pub mod RunEnd
+pub mod AfterRun
 pub mod Running

@@ -16,7 +16,7 @@ ghost use Rattle.locked_queues.specs.declared.settled.SettleFault.{SettleFault};
 ghost use Rattle.relay_files.specs.Files.{AllReadAs};
 ghost use Rattle.relay_run.specs.Closing.{closing_line, closing_status};
 ghost use Rattle.relay_run.specs.Running.{RunEnds, RelayFails, ClosesWith, EndsWithStatus, EndsWithFault, opening, ready_line};
-ghost use Rattle.relay_run.specs.RunEnd.{EndsARun, IfStopped, IfFollowed};
+ghost use Rattle.relay_run.specs.AfterRun.{EndsARun, IfStopped, IfFollowed};
 
 use crate::admin::{FirstState, RunBefore};
 use crate::closing::write_end;
@@ -136,12 +136,12 @@ struct NextRun<L> {
     number: u64,
 }
 
-/// How a run ended.
+/// What comes after a run.
 #[derive(Drop)]
-enum RunEnd<L> {
-    /// It was stopped, and this is its status.
+enum AfterRun<L> {
+    /// Nothing: the relay was stopped, and this is its status.
     Stopped(Status),
-    /// Another one follows.
+    /// Another run.
     Followed(NextRun<L>),
 }
 
@@ -168,8 +168,8 @@ fn run_all<R: RelayRuntime, W: Write, L: Write + Send + Drop, K: Recorder + Drop
     };
     for _ in rt.forever() {
         match one_run(rt, alloc, next, process, output, &mut recorder, files) {
-            Ok(RunEnd::Stopped(status)) => return Ok(status),
-            Ok(RunEnd::Followed(following)) => next = following,
+            Ok(AfterRun::Stopped(status)) => return Ok(status),
+            Ok(AfterRun::Followed(following)) => next = following,
             Err(fault) => return Err(fault),
         }
     }
@@ -185,7 +185,7 @@ fn one_run<R: RelayRuntime, W: Write, L: Write + Send + Drop, K: Recorder + Drop
     output: &mut W,
     recorder: &mut Option<K>,
     files: &F,
-) -> Result<RunEnd<L>, RelayFault>
+) -> Result<AfterRun<L>, RelayFault>
     ensures { EndsARun (opening (is_none next.before.waiting))
         (W.contents output.old) (W.contents output.new) result }
 {
@@ -208,7 +208,7 @@ fn run_relay<
     output: &mut W,
     recorder: &mut Option<K>,
     files: &F,
-) -> Result<RunEnd<L>, RelayFault>
+) -> Result<AfterRun<L>, RelayFault>
     requires table { next.start.blank ≡ B.table }
     requires name { NAME ≡ B.name }
     requires dests { next.start.begun.shape.dests ≡ B.dests }
@@ -271,7 +271,7 @@ fn run_relay<
     match next {
         Some(next) => {
             let following = follow(rt, alloc, relay, left, next, process);
-            Ok(RunEnd::Followed(following))
+            Ok(AfterRun::Followed(following))
         }
         None => {
             put_failures(
@@ -321,13 +321,13 @@ fn stop<B: Set, W: Write, L: Drop, K: Recorder>(
 }
 
 /// The end of a run that was stopped.
-fn stopped<L: Drop>(ended: Result<Status, RelayFault>) -> Result<RunEnd<L>, RelayFault>
+fn stopped<L: Drop>(ended: Result<Status, RelayFault>) -> Result<AfterRun<L>, RelayFault>
     ensures stopped { IfOk result (λ end. IfStopped end (λ status. ended ≡ Ok status)) }
     ensures never_followed { IfOk result (λ end. IfFollowed end (λ _. ⊥)) }
     ensures err { IfErr result (λ fault. ended ≡ Err fault) }
 {
     match ended {
-        Ok(status) => Ok(RunEnd::Stopped(status)),
+        Ok(status) => Ok(AfterRun::Stopped(status)),
         Err(fault) => Err(fault),
     }
 }

@@ -6,22 +6,22 @@ use Rattle.relay_files.specs.declared.fault.RelayFault.{RelayFault}
 use Rattle.relay_files.specs.declared.fault.Status.{Status}
 use Rattle.relay_run.specs.Running.{RunEnds, RunFails}
 use Rattle.relay_run.specs.declared.run_command.NextRun.{NextRun}
-use Rattle.relay_run.specs.declared.run_command.RunEnd.{RunEnd}
-use Rattle.relay_run.specs.declared.run_command.RunEnd.TheVariants as end
+use Rattle.relay_run.specs.declared.run_command.AfterRun.{AfterRun}
+use Rattle.relay_run.specs.declared.run_command.AfterRun.TheVariants as end
 
 module _ {L : Type 0} where
   -- what holds of the status, if the run was stopped
-  abbrev pub IfStopped : RunEnd L → (Status → Type 0) → Type 0
+  abbrev pub IfStopped : AfterRun L → (Status → Type 0) → Type 0
   IfStopped (end.Stopped status) holds = holds status
   IfStopped (end.Followed next) holds = ⊤
 
   -- what holds of the next run, if one follows
-  abbrev pub IfFollowed : RunEnd L → (NextRun L → Type 0) → Type 0
+  abbrev pub IfFollowed : AfterRun L → (NextRun L → Type 0) → Type 0
   IfFollowed (end.Stopped status) holds = ⊤
   IfFollowed (end.Followed next) holds = holds next
 
 -- a run that writes this opening once its threads have begun ended so
-pub record EndsARun {L : Type 0} (opening : List ℕ) (before after : Option (List ℕ)) (end : Result (RunEnd L) RelayFault) : Type 0 where
+pub record EndsARun {L : Type 0} (opening : List ℕ) (before after : Option (List ℕ)) (end : Result (AfterRun L) RelayFault) : Type 0 where
   -- it was stopped
   pub stopped : IfOk end (λ e. IfStopped e (RunEnds opening before after))
   -- another one follows, for which a connection waits: nothing but the opening was written
