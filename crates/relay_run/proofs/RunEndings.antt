@@ -1,5 +1,5 @@
 -- How the parts of a run's end make the whole.
-use Rattle.std.proofs.Common.{◌≡◌, ◌⊎◌, inl, inr, ℕ, Bool, true, false, if◌then◌else◌, true≢false, List, [], Option, Result, Ok, Err, IsOk, IsErrOf, OnOk, IfOk, IfErr, refl, sym, subst, ◌∙◌, append-nil}
+use Rattle.std.proofs.Common.{◌≡◌, ◌⊎◌, inl, inr, ℕ, Bool, true, false, List, [], Option, Result, Ok, Err, IsErrOf, OnOk, IfOk, IfErr, refl, sym, subst, ◌∙◌, append-nil}
 use Rattle.std.specs.Io.KnownBytes.{Appends}
 use Rattle.locked_queues.specs.declared.settled.Settled.{Settled}
 use Rattle.locked_queues.specs.declared.settled.SettleFault.{SettleFault}
@@ -7,10 +7,10 @@ use Rattle.locked_queues.specs.declared.settled.SettleFault.TheVariants as settl
 use Rattle.mio_loops.specs.declared.readiness.ReadinessFault.{ReadinessFault}
 use Rattle.mio_loops.specs.declared.readiness.ReadinessFault.TheVariants as readiness
 use Rattle.relay_base.proofs.Growth.{Appends-then}
-use Rattle.relay_files.proofs.BytesLemmas.{Appends-kept, Appends-nothing, Keeps-self, GrowsByPart-behind, part-of_written}
+use Rattle.relay_files.proofs.BytesLemmas.{Appends-kept, Keeps-self, GrowsByPart-behind}
 use Rattle.relay_files.specs.Output.{GrowsByPart}
 use Rattle.relay_files.specs.declared.fault.RelayFault.{RelayFault}
-use Rattle.relay_files.specs.declared.fault.RelayFault.TheVariants.{Output, NoMemory}
+use Rattle.relay_files.specs.declared.fault.RelayFault.TheVariants.{NoMemory}
 use Rattle.relay_ports.specs.StartFault.{is_start_fault}
 use Rattle.relay_run.specs.Closing.{closing_line, output_fault}
 use Rattle.relay_run.specs.AfterRun.{IfStopped, IfFollowed}
@@ -18,7 +18,9 @@ use Rattle.relay_run.specs.declared.run_command.NextRun.{NextRun}
 use Rattle.relay_run.specs.declared.run_command.AfterRun.{AfterRun}
 use Rattle.relay_run.specs.declared.run_command.AfterRun.TheVariants as end
 use Rattle.relay_files.specs.declared.fault.Status.{Status}
-use Rattle.relay_run.specs.Running.{ready_line, opening, run_text, is_output_fault, Served, FailsBeforeClosing, ClosesWith, IsThreadFault, RunEnds, RunFails, AtStart, AtLines, OfThread, RelayFails}
+use Rattle.run_threads.proofs.ServedLemmas.{Served-part}
+use Rattle.run_threads.specs.Served.{ready_line, opening, is_output_fault, Served}
+use Rattle.relay_run.specs.Running.{run_text, FailsBeforeClosing, ClosesWith, IsThreadFault, RunEnds, RunFails, AtStart, AtLines, OfThread, RelayFails}
 
 -- the fault of a sender that cannot begin is one of the start
 pub starts-output : (fault : ReadinessFault) → is_start_fault (output_fault fault) ≡ true
@@ -73,38 +75,6 @@ fails-last false a b c fault wrote (AtLines settled is part) =
     inl (AtLines settled is (GrowsByPart-behind a b c ready_line (closing_line settled) [] (run_text ready_line settled) wrote part (sym (append-nil (run_text ready_line settled)))))
 fails-last false a b c fault wrote (OfThread settled receivers senders is closed) =
     inl (OfThread settled receivers senders is (Appends-then a b c ready_line (closing_line settled) wrote closed))
-
--- ---- what the first thread writes
-
-pub Served-of : (begins : List ℕ) (a b : Option (List ℕ)) (served : Result (Unit {0}) RelayFault) → OnOk served (Appends a b begins) → IfErr served (λ fault. (fault ≡ Output) × GrowsByPart a b begins) → Served begins a b served
-Served-of begins a b (Ok done) whole part = whole
-Served-of begins a b (Err fault) whole part =
-    (subst (λ (f : RelayFault). is_output_fault f ≡ true) (sym part.0) refl, part.1)
-
--- nothing, where a thread had not the memory to begin
-pub Served-nothing : (begins : List ℕ) (a : Option (List ℕ)) → Served begins a a (Err NoMemory)
-Served-nothing begins a = (refl, (0, Appends-nothing a))
-
--- a first part of the opening
-pub Served-part : (begins : List ℕ) (a b : Option (List ℕ)) (served : Result (Unit {0}) RelayFault) → Served begins a b served → GrowsByPart a b begins
-Served-part begins a b (Ok done) wrote = part-of_written a b begins wrote
-Served-part begins a b (Err fault) fails = fails.1
-
--- all of it, where it served until the run was to end
-pub Served-whole : (begins : List ℕ) (a b : Option (List ℕ)) (served : Result (Unit {0}) RelayFault) → Served begins a b served → IsOk served → Appends a b begins
-Served-whole begins a b (Ok done) wrote is = wrote
-Served-whole begins a b (Err fault) wrote is = absurd (true≢false (sym is))
-
--- what receivers and senders left was kept, or memory ran out
-pub kept-both : (served : Result (Unit {0}) RelayFault) (receivers senders : Bool) → ((if senders then (if receivers then served else Err NoMemory) else Err NoMemory) ≡ served) ⊎ ((if senders then (if receivers then served else Err NoMemory) else Err NoMemory) ≡ Err NoMemory)
-kept-both served true true = inl refl
-kept-both served false true = inr refl
-kept-both served receivers false = inr refl
-
-pub Served-kept : (begins : List ℕ) (a b : Option (List ℕ)) (served kept : Result (Unit {0}) RelayFault) → Served begins a b served → (kept ≡ served) ⊎ (kept ≡ Err NoMemory) → Served begins a b kept
-Served-kept begins a b served kept wrote (inl is) = subst (λ (r : Result (Unit {0}) RelayFault). Served begins a b r) (sym is) wrote
-Served-kept begins a b served kept wrote (inr is) =
-    subst (λ (r : Result (Unit {0}) RelayFault). Served begins a b r) (sym is) (refl, Served-part begins a b served wrote)
 
 -- ---- a fault before the closing line
 

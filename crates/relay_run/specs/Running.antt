@@ -1,5 +1,5 @@
 -- What a run writes, and how it ends.
-use Rattle.std.specs.Prelude.{◌≡◌, ◌⊎◌, ℕ, Bool, true, false, List, [], ◌∷◌, ◌++◌, codes, Option, Some, None, Result, Ok, Err}
+use Rattle.std.specs.Prelude.{◌≡◌, ◌⊎◌, ℕ, true, List, [], ◌∷◌, ◌++◌, Option, Some, None, Result, Ok}
 use Rattle.std.specs.Io.KnownBytes.{Appends, Keeps}
 use Rattle.locked_queues.specs.declared.settled.Settled.{Settled}
 use Rattle.locked_queues.specs.declared.settled.SettleFault.{SettleFault}
@@ -10,20 +10,12 @@ use Rattle.relay_files.specs.Faults.{EndsAt}
 use Rattle.relay_files.specs.Files.{Files}
 use Rattle.relay_files.specs.Output.{GrowsByPart}
 use Rattle.relay_files.specs.declared.fault.RelayFault.{RelayFault}
-use Rattle.relay_files.specs.declared.fault.RelayFault.TheVariants.{Output, NoMemory}
+use Rattle.relay_files.specs.declared.fault.RelayFault.TheVariants.{NoMemory}
 use Rattle.relay_files.specs.declared.fault.Status.{Status}
 use Rattle.relay_files.specs.declared.source.Sources.{Sources}
 use Rattle.relay_ports.specs.StartFault.{is_start_fault}
+use Rattle.run_threads.specs.Served.{ready_line, is_output_fault}
 use Rattle.relay_run.specs.Closing.{closing_line, closing_status, input_fault, output_fault}
-
--- the line that says that all threads have begun
-abbrev pub ready_line : List ℕ
-ready_line = codes "ready\n"
-
--- what a run says once all its threads have begun: that they are ready, if no run was before it
-abbrev pub opening : (is_first : Bool) → List ℕ
-opening true = ready_line
-opening false = []
 
 -- all that a run writes that begins so, and settles so
 abbrev pub run_text : (opening : List ℕ) → Result Settled SettleFault → List ℕ
@@ -53,18 +45,6 @@ abbrev pub thread_fault : (receivers senders : List (Option ReadinessFault)) →
 thread_fault receivers senders = receiver_or_sender (first_fault receivers) (first_fault senders)
 
 -- ---- a run whose files are a configuration
-
--- a fault of the output or of memory
-abbrev pub is_output_fault : RelayFault → Bool
-is_output_fault Output = true
-is_output_fault NoMemory = true
-is_output_fault fault = false
-
--- what the first thread wrote while the others ran: its opening, or a first part of it
-abbrev pub Served : (opening : List ℕ) → (before after : Option (List ℕ)) → Result (Unit {0}) RelayFault → Type 0
-Served opening before after (Ok done) = Appends before after opening
-Served opening before after (Err fault) =
-    (is_output_fault fault ≡ true) × GrowsByPart before after opening
 
 -- the fault of some threads
 abbrev pub IsThreadFault : Option RelayFault → Type 0

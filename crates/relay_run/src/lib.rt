@@ -16,10 +16,8 @@ mod closing;
 mod disk_waits;
 mod end_waits;
 mod ended_run;
-mod ending;
 mod failed_run;
 mod files_asked;
-mod first_work;
 mod inherited;
 mod keeper_setup;
 mod next_start;
@@ -45,7 +43,6 @@ mod start;
 mod thread_end;
 mod thread_jobs;
 mod thread_records;
-mod threads;
 
 pub use files_asked::FilesAsked;
 pub use relay_ports::{

@@ -3,7 +3,6 @@
 ghost use Rattle.std.specs.Prelude.{◌≡◌, ◌≤◌, length, Some};
 ghost use Rattle.relay_run.specs.Running.{fault_of_plan};
 
-use crate::thread_end::ThreadEnd;
 use finished_run::FedLog;
 use locked_queues::{DoorRecord, LockedDoor, Set};
 use mio_loops::{InputLog, ReadinessFault};
@@ -12,6 +11,7 @@ use receivers::ReceiverRecord;
 use relay_files::{RelayFault, RunConfiguration};
 use relay_ports::PortReceiver;
 use run_state::{Signals, ThreadWork};
+use run_threads::ThreadEnd;
 use senders::WakeGate;
 use std::alloc::{AllocError, Global};
 use std::rt::Clock;

@@ -6,7 +6,6 @@ ghost use Rattle.relay_ports.specs.StartFault.{is_start_fault};
 use crate::receiver_job::ReceiverJob;
 use crate::relay_jobs::JobMaker;
 use crate::runtime::RelayRuntime;
-use crate::thread_jobs::Receiving;
 use locked_queues::{DoorRecord, DoorSeat, LockedDoor, MOST_RECEIVERS, Set};
 use log_lines::ReceiverNotes;
 use receivers::{HandedStreams, ReceiverControl};
@@ -14,6 +13,7 @@ use relay_base::{NoMemory, add};
 use relay_files::RelayFault;
 use relay_ports::{Inlet, PortReceiver, Share};
 use relay_watchers::ReceiverLog;
+use run_threads::Receiving;
 use std::sync::Arc;
 
 /// A receiver for each inlet, each with its door, and adds where the events of each are noted. A seat that is left over is closed

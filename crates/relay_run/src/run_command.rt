@@ -15,7 +15,8 @@ ghost use Rattle.locked_queues.specs.declared.settled.Settled.{Settled};
 ghost use Rattle.locked_queues.specs.declared.settled.SettleFault.{SettleFault};
 ghost use Rattle.relay_files.specs.Files.{AllReadAs};
 ghost use Rattle.relay_run.specs.Closing.{closing_line, closing_status};
-ghost use Rattle.relay_run.specs.Running.{RunEnds, RelayFails, ClosesWith, EndsWithStatus, EndsWithFault, opening, ready_line};
+ghost use Rattle.relay_run.specs.Running.{RunEnds, RelayFails, ClosesWith, EndsWithStatus, EndsWithFault};
+ghost use Rattle.run_threads.specs.Served.{opening, ready_line};
 ghost use Rattle.relay_run.specs.AfterRun.{EndsARun, IfStopped, IfFollowed};
 
 use crate::admin::{FirstState, RunBefore};

@@ -3,7 +3,8 @@
 ghost use Rattle.std.specs.Prelude.{IfOk, IfErr, OnOk};
 ghost use Rattle.std.specs.Io.KnownBytes.{Appends};
 ghost use Rattle.std.specs.Option.{is_none};
-ghost use Rattle.relay_run.specs.Running.{IsThreadFault, FailsBeforeClosing, opening};
+ghost use Rattle.relay_run.specs.Running.{IsThreadFault, FailsBeforeClosing};
+ghost use Rattle.run_threads.specs.Served.{opening};
 
 use crate::admin::{AdminPort, FirstState};
 use crate::relay::{Parts, Relay};
@@ -12,10 +13,10 @@ use crate::reload_source::ReloadSource;
 use crate::runtime::RelayRuntime;
 use crate::start::Process;
 use crate::thread_records::{Records, records_of};
-use crate::threads::run_all_threads;
 use finished_run::Recorder;
 use locked_queues::Set;
 use relay_files::RelayFault;
+use run_threads::run_all_threads;
 use std::alloc::Global;
 use std::io::Write;
 

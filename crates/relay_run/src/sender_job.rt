@@ -1,10 +1,10 @@
 //! The work of a sender's thread.
 
 use crate::run_levels::RunLevels;
-use crate::thread_end::ThreadEnd;
 use locked_queues::{Outlet, OutletRecord, Set};
 use mio_loops::{SystemTimes, WriteLog};
 use run_state::{Signals, ThreadWork};
+use run_threads::ThreadEnd;
 use senders::{SenderRecord, WakeGate};
 use spool::SpoolDisk;
 use std::alloc::{AllocError, Global};

@@ -1,4 +1,4 @@
-//! How a receiver or a sender ended.
+//! The fault of a run whose threads have ended.
 
 ghost use Rattle.std.specs.Prelude.{◌≡◌, length, map};
 ghost use Rattle.relay_run.specs.Running.{first_fault, thread_fault};
@@ -6,15 +6,7 @@ ghost use Rattle.relay_run.specs.Running.{first_fault, thread_fault};
 use crate::closing::{input_fault, output_fault};
 use mio_loops::ReadinessFault;
 use relay_files::RelayFault;
-
-/// How a receiver or a sender ended: what its door or its outlet recorded, what it logged if the run is recorded, and its
-/// fault, if any.
-#[derive(Drop)]
-pub(crate) struct ThreadEnd<T, L> {
-    pub(crate) record: T,
-    pub(crate) log: Option<L>,
-    pub(crate) fault: Option<ReadinessFault>,
-}
+use run_threads::ThreadEnd;
 
 /// The fault of a run whose threads ended in these ways: that of the first receiver that has one, and if none has, that
 /// of the first sender that has one.

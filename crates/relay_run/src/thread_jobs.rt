@@ -3,43 +3,9 @@
 ghost use Rattle.std.specs.Prelude.{◌≡◌, true, IfErr};
 ghost use Rattle.relay_ports.specs.StartFault.{is_start_fault};
 
-use locked_queues::DoorRecord;
-use receivers::ReceiverControl;
 use relay_base::NoMemory;
 use relay_files::RelayFault;
-use std::alloc::Global;
-use std::sync::Arc;
-
-/// What the threads of a run work on: its receivers and its senders, the sender to destinations that are gone, the keeper of
-/// files, the log and the status server, if any.
-#[derive(Drop)]
-pub(crate) struct Jobs<J, K, G, H, L, V> {
-    pub(crate) receiving: Receiving<J>,
-    pub(crate) sending: Vec<K>,
-    pub(crate) parting: Option<G>,
-    pub(crate) keeping: Option<H>,
-    pub(crate) logging: Option<L>,
-    pub(crate) serving: Option<V>,
-}
-
-/// Receivers, the records of seats that are unused, and what closes and wakes the receivers.
-#[derive(Drop)]
-pub(crate) struct Receiving<J> {
-    pub(crate) jobs: Vec<J>,
-    pub(crate) unused: Vec<DoorRecord>,
-    pub(crate) controls: Vec<Arc<ReceiverControl>>,
-}
-
-impl<J> Receiving<J> {
-    /// No receivers. It takes no memory.
-    pub(crate) fn none(alloc: Global) -> Receiving<J> {
-        Receiving {
-            jobs: Vec::new(alloc),
-            unused: Vec::new(alloc),
-            controls: Vec::new(alloc),
-        }
-    }
-}
+use run_threads::{Jobs, Receiving};
 
 /// The jobs, if all could be made, or else the fault of the first kind that could not. It knows nothing of them: what the jobs of
 /// a relay are made of is dropped here without being taken apart.

@@ -3,14 +3,14 @@
 ghost use Rattle.std.specs.Prelude.{◌≡◌, ◌⊎◌, map, IfOk, IfErr, IsErrOf, IsOk, OnOk};
 ghost use Rattle.relay_run.specs.Running.{thread_fault};
 
-use crate::ending::ThreadEnds;
-use crate::thread_end::{ThreadEnd, thread_fault};
+use crate::thread_end::thread_fault;
 use finished_run::ThreadLogs;
 use locked_queues::{DoorRecord, OutletRecord};
 use relay_base::{NoMemory, add};
 use relay_files::RelayFault;
 use relay_ports::FirstPorts;
 use relay_watchers::{LogEnd, StatusServer};
+use run_threads::{ThreadEnd, ThreadEnds};
 use std::alloc::Global;
 
 /// What doors and outlets recorded, what receivers and senders logged, and the fault of a thread, if one had a fault.

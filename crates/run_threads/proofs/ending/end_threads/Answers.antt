@@ -1,5 +1,5 @@
-use Rattle.relay_run.proofs.RunEndings.{kept-both}
-use Rattle.relay_run.proofs.ending.end_threads.Goals as goal
+use Rattle.run_threads.proofs.ServedLemmas.{kept-both}
+use Rattle.run_threads.proofs.ending.end_threads.Goals as goal
 
 -- what receivers and senders left was kept, or memory ran out
 pub returns : goal.returns

@@ -1,13 +1,13 @@
 //! The threads of a relay: one for each receiver and each sender, and one for each that watches them.
 
 ghost use Rattle.std.specs.Prelude.{◌≡◌};
-ghost use Rattle.relay_run.specs.Running.{Served, opening};
+ghost use Rattle.run_threads.specs.Served.{Served, opening};
 ghost use denote.Param.Send.{IsSync, IsSend};
 
 use crate::ending::{ThreadEnds, end_threads};
 use crate::first_work::{FirstWork, serve_if};
+use crate::jobs::{Jobs, Receiving};
 use crate::thread_end::ThreadEnd;
-use crate::thread_jobs::{Jobs, Receiving};
 use finished_run::FedLog;
 use locked_queues::{DoorRecord, OutletRecord};
 use mio_loops::WriteLog;
@@ -63,7 +63,7 @@ struct WithOutput<'a, 'p, A, W> {
 }
 
 /// Starts a thread for each job, and has the first one do its work, with this output, until the run has ended.
-pub(crate) fn run_all_threads<
+pub fn run_all_threads<
     R: Threads + Wait + Clock + Sync,
     J: ThreadWork<R, ThreadEnd<DoorRecord, FedLog>> + Send + Drop,
     K: ThreadWork<R, ThreadEnd<OutletRecord, Vec<WriteLog>>> + Send + Drop,

@@ -3,7 +3,7 @@
 ghost use Rattle.std.specs.Prelude.{◌≡◌, IfErr, OnOk};
 ghost use Rattle.std.specs.Io.KnownBytes.{Appends};
 ghost use Rattle.relay_files.specs.Output.{GrowsByPart};
-ghost use Rattle.relay_run.specs.Running.{Served, opening};
+ghost use Rattle.run_threads.specs.Served.{Served, opening};
 
 use receivers::ReceiverControl;
 use relay_files::{RelayFault, write_out};
@@ -14,7 +14,7 @@ use std::rt::Clock;
 use std::sync::{Arc, Wait};
 
 /// What the first thread does while the others run, beside saying that the relay is ready. It does not reach the output.
-pub(crate) trait FirstWork<R: Wait + Clock, O, S> {
+pub trait FirstWork<R: Wait + Clock, O, S> {
     ghost use Rattle.std.specs.Prelude.{Bool};
 
     // Whether no run was before.

@@ -23,11 +23,15 @@ use std::thread::{JoinHandle, Threads};
 /// How the threads ended, the receivers and the senders in order, with the records of unused seats, and whether the run went on
 /// until it was to end.
 #[derive(Drop)]
-pub(crate) struct ThreadEnds {
-    pub(crate) receivers: Vec<ThreadEnd<DoorRecord, FedLog>>,
-    pub(crate) senders: Vec<ThreadEnd<OutletRecord, Vec<WriteLog>>>,
-    pub(crate) unused: Vec<DoorRecord>,
-    pub(crate) served: Result<(), RelayFault>,
+pub struct ThreadEnds {
+    /// How the receivers ended.
+    pub receivers: Vec<ThreadEnd<DoorRecord, FedLog>>,
+    /// How the senders ended.
+    pub senders: Vec<ThreadEnd<OutletRecord, Vec<WriteLog>>>,
+    /// The records of unused seats.
+    pub unused: Vec<DoorRecord>,
+    /// How the first thread served.
+    pub served: Result<(), RelayFault>,
 }
 
 /// Ends the threads, once the first has served in this way: the receivers, then the senders, and at last those that watch

@@ -1,5 +1,5 @@
-use Rattle.relay_run.proofs.RunEndings.{Served-kept}
-use Rattle.relay_run.proofs.threads.run_in_scope.Goals as goal
+use Rattle.run_threads.proofs.ServedLemmas.{Served-kept}
+use Rattle.run_threads.proofs.threads.run_in_scope.Goals as goal
 
 -- the end that is given is that of the serving, or memory ran out after it
 pub returns : goal.returns
