@@ -25,6 +25,11 @@ CALLS = [("openat", 1), ("openat", 2), ("write", 1), ("write", 2), ("write", 3),
          ("rename", 2), ("unlink", 1), ("ftruncate", 1), ("pwrite64", 1), ("pwrite64", 2)]
 
 
+def lines_of(store):
+    """The whole lines that all connections of a store took."""
+    return [line for taken in store.taken for line in bytes(taken).split(b"\n")[:-1]]
+
+
 class SendingAFile(WithSpool):
     """The file of an earlier run is sent."""
 
@@ -103,9 +108,8 @@ class SendingAFile(WithSpool):
             self.wait_for(lambda: store.lines()[-1:] == LONG[-1:], "the last line has come")
             self.ends(relay)
             log.thread.join(LIMIT)
-        came = [line for taken in store.taken for line in bytes(taken).split(b"\n")[:-1]]
-        self.assertEqual(set(came), set(LONG))
-        twice = len(came) - len(LONG)
+        self.wait_for(lambda: set(lines_of(store)) == set(LONG), "the store has read both connections")
+        twice = len(lines_of(store)) - len(LONG)
         self.assertLessEqual(twice, PIECE // len(LONG[0]) + 1)
         said = [int(more[1]) for line in log.lines if (more := re.search(rb"up to (\d+) lines may come twice", line))]
         self.assertLessEqual(twice, sum(said))
