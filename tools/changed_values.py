@@ -24,6 +24,7 @@ sys.path.insert(0, E2E)
 sys.dont_write_bytecode = True
 
 from fixtures import program
+from fixtures.row_texts import section_texts
 
 ROWS = "worked_rows"
 CASES = {"notes": ("explained",), "decimals": ("values", "lines", "python_pickles")}  # the cases that read a table
@@ -79,13 +80,14 @@ def printed_rows(path):
 
 
 def is_seen_by_rows(rows, changed):
-    """Whether the rows differ from a changed table."""
+    """Whether the rows, or the texts that they read, differ from a changed table."""
     table = {}
     try:
         exec(compile(changed, ROWS, "exec"), table)
     except Exception:  # what no table is made of is a difference
         return True
-    return {name: text.splitlines() for name, text in table["ROWS"].items()} != rows
+    texts = [text for text, _sections in table["SECTIONS"]]
+    return texts != section_texts() or {name: text.splitlines() for name, text in table["ROWS"].items()} != rows
 
 
 class Copies:
