@@ -15,7 +15,7 @@ from cases.spool_diversion import MANY, STEP, Diversion
 from fixtures.harness import LIMIT, Ran
 from fixtures.log import Log
 from fixtures.program import TOP
-from fixtures.spooling import ALL, numbered, text_of
+from fixtures.spooling import ALL, LONG, numbered, text_of
 
 LIBC = ctypes.CDLL(None, use_errno=True)
 REMOUNT, DETACH = 32, 2  # flags of mount and umount
@@ -239,6 +239,37 @@ class Disks(Diversion):
             self.has_all(beside, lines)
             self.has_all(self.store_at(port), lines)
             self.are_sent()
+            self.over(relay)
+
+    def test_a_reload_beside_a_sender_that_waits_for_the_disk(self):
+        """Without a size senders read files themselves. A reload is refused after ten seconds, in which commands are answered and the
+        other sender goes on; once the disk goes on, a reload is done, and nothing is lost."""
+        child, _ = self.fuse()
+        store, dest = self.store_that_reads_nothing()
+        beside, = self.stores(1)
+        lines = numbered(300)
+        words = "reload", "--admin"
+        self.write(dest, text_of(LONG))
+        with self.spooling([dest, f"127.0.0.1:{beside.port}"], "--senders", "2") as relay:
+            self.begins_to_send(store)
+            with self.hanging(child):
+                store.read_on()
+                self.wait_for(lambda: awaits_disk(relay.child.pid), "the sender waits for the disk")
+                ended = []
+                reload = threading.Thread(target=lambda: ended.append(self.run_words((*words, str(relay.admin)))))
+                reload.start()
+                relay.lines(text_of(lines[:100]))
+                self.has_all(beside, lines[:100])
+                self.assertEqual(len(relay.report()), 2)
+                self.assertEqual(ended, [])
+                reload.join(LIMIT)
+                self.assertEqual(ended, [Ran(3, b"", b"relayd: spool: the disk does not answer within 10 seconds\n")])
+                relay.lines(text_of(lines[100:200]))
+                self.has_all(beside, lines[:200])
+            self.assertEqual(self.run_words((*words, str(relay.admin))).status, 0)
+            relay.lines(text_of(lines[200:]))
+            self.has_all(beside, lines)
+            self.has_all(store, LONG + lines)
             self.over(relay)
 
     def reload_that_adds(self, relay, dests):

@@ -1,6 +1,7 @@
 //! Calls that a door or an outlet makes while it holds a lock.
 
 use relay_base::DestId;
+use std::sync::Wait;
 
 /// What is about to be done under the lock of a queue.
 #[derive(Clone, Copy)]
@@ -27,7 +28,7 @@ pub trait Gate {
 
     /// Is called under no lock, before offers to a destination whose queue is at least a quarter full, not full, although its
     /// last take had left nothing: its sender may only wait for a processor.
-    fn give_way(&self, dest: DestId);
+    fn give_way<R: Wait>(&self, rt: &R, dest: DestId);
 }
 
 /// A gate that does nothing.
@@ -37,5 +38,5 @@ pub struct OpenGate;
 impl Gate for OpenGate {
     fn at(&self, _point: GatePoint) {}
 
-    fn give_way(&self, _dest: DestId) {}
+    fn give_way<R: Wait>(&self, _rt: &R, _dest: DestId) {}
 }

@@ -132,7 +132,7 @@ impl<'d, B: Set, R: Wait, G: Gate> LockedDoor<'d, B, R, G> {
             return held;
         }
         drop(held);
-        self.gate.give_way(dest);
+        self.gate.give_way(self.rt, dest);
         self.lock(dest)
     }
 

@@ -4,7 +4,7 @@ ghost use Rattle.std.specs.Prelude.{◌≡◌, true};
 ghost use Rattle.std.specs.Option.{is_none};
 
 use crate::admin_turn::{READING_PAUSE_MS, take_turn};
-use crate::disk_waits::{NotPrepared, close_late_files, halt_keeper, open_files_of};
+use crate::disk_waits::{NotPrepared, close_late_files, halt_disk, open_files_of};
 use crate::end_waits::{DrainWait, EndWait, FilesWait, PartingWait};
 use crate::ended_run::EndedRecord;
 use crate::prepared_run::{PreparedRun, ReadyRun, ReloadFrom, prepared_by, ready_by};
@@ -196,7 +196,7 @@ enum Following<B: Set> {
     Stop,
 }
 
-/// Makes ready the run of a reload, and has the keeper of the files do nothing more; or answers why not.
+/// Makes ready the run of a reload, and has all threads make no more calls of the disk; or answers why not.
 fn follow_by<B: Set, R: Wait + Clock + Net + SystemTables + Threads, F: ReloadSource>(
     rt: &R,
     alloc: Global,
@@ -224,7 +224,7 @@ fn follow_by<B: Set, R: Wait + Clock + Net + SystemTables + Threads, F: ReloadSo
     }
 }
 
-/// Makes ready the run of a reload, with its files, and has the keeper of the files do nothing more.
+/// Makes ready the run of a reload, with its files, and has all threads make no more calls of the disk.
 fn prepared_after<B: Set, R: Wait + Clock + Net + SystemTables + Threads, F: ReloadSource>(
     rt: &R,
     alloc: Global,
@@ -255,7 +255,7 @@ fn prepared_after<B: Set, R: Wait + Clock + Net + SystemTables + Threads, F: Rel
         Ok(prepared) => prepared,
         Err(refused) => return Err(NotPrepared::Refused(refused)),
     };
-    match halt_keeper(rt, alloc, relay, ports, watched) {
+    match halt_disk(rt, alloc, relay, ports, watched) {
         Ok(()) => Ok(prepared),
         Err(ended) => {
             prepared.give_up(rt, relay);

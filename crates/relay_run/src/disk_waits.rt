@@ -8,6 +8,7 @@ use crate::report_source::ReportSource;
 use locked_queues::Set;
 use mio_loops::{SystemTimes, TimeSource};
 use relay_ports::FirstPorts;
+use run_state::{DiskUser, DiskUsers, Signals};
 use spool::{SpoolFiles, Unopened};
 use std::alloc::Global;
 use std::net::Net;
@@ -40,7 +41,8 @@ pub(crate) fn open_files_of<B: Set, R: Wait + Clock + Net, F: ReloadSource>(
     if let Err(refused) = files.open(alloc, asked) {
         return Err(NotPrepared::Refused(refused));
     }
-    match wait_for_files(rt, alloc, relay, ports, watched) {
+    let wait = OpeningWait { files };
+    match wait_for_disk(rt, alloc, relay, ports, watched, &wait) {
         Ok(Ok(opened)) => {
             ready.put_files(opened);
             Ok(())
@@ -50,20 +52,62 @@ pub(crate) fn open_files_of<B: Set, R: Wait + Clock + Net, F: ReloadSource>(
     }
 }
 
-/// Answers commands by these answers until it is known whether files are open, for ten seconds at most.
-fn wait_for_files<B: Set, R: Wait + Clock + Net, F: ReloadSource>(
+/// Something that a reload waits for of the disk.
+trait DiskWait {
+    /// What it ends with.
+    type End;
+
+    /// Looks, and returns how it ended, once it has.
+    fn look(&self) -> Option<Self::End>;
+}
+
+/// Files are opened for a run.
+#[derive(Drop)]
+struct OpeningWait<'x, F> {
+    files: &'x F,
+}
+
+impl<F: ReloadSource> DiskWait for OpeningWait<'_, F> {
+    type End = Result<SpoolFiles, Unopened>;
+
+    fn look(&self) -> Option<Result<SpoolFiles, Unopened>> {
+        self.files.opened()
+    }
+}
+
+/// Threads end their calls of the disk, and make no more.
+#[derive(Drop)]
+struct HaltingWait<'x> {
+    signals: &'x Signals,
+    users: DiskUsers,
+}
+
+impl DiskWait for HaltingWait<'_> {
+    type End = ();
+
+    fn look(&self) -> Option<()> {
+        if self.signals.are_disk_halted(self.users) {
+            Some(())
+        } else {
+            None
+        }
+    }
+}
+
+/// Answers commands by these answers until a wait has ended, for ten seconds at most.
+fn wait_for_disk<B: Set, R: Wait + Clock + Net, F: ReloadSource, W: DiskWait>(
     rt: &R,
     alloc: Global,
     relay: &Relay<B>,
     ports: &mut FirstPorts,
     watched: &mut ReportSource<'_, B, F>,
-) -> Result<Result<SpoolFiles, Unopened>, NotPrepared> {
-    let files = watched.files;
+    wait: &W,
+) -> Result<W::End, NotPrepared> {
     let times = SystemTimes::since(rt, relay.began);
     let end = times.millis().saturating_add(READING_TIMEOUT_MS);
     for _ in rt.forever() {
-        if let Some(opened) = files.opened() {
-            return Ok(opened);
+        if let Some(ended) = wait.look() {
+            return Ok(ended);
         }
         if take_turn(rt, alloc, relay, ports, watched, READING_PAUSE_MS) {
             return Err(NotPrepared::Stopped);
@@ -106,48 +150,49 @@ pub(crate) fn close_late_files<B: Set, R: Wait, F: ReloadSource>(
     }
 }
 
-/// Has the keeper of the files do nothing more before the run ends, so that nobody waits for the disk then, and answers commands by
-/// these answers until it does nothing, for ten seconds at most. If the run is not to end, the keeper goes on.
-pub(crate) fn halt_keeper<B: Set, R: Wait + Clock + Net, F: ReloadSource>(
+/// The threads of a run that make calls of the disk.
+fn disk_users_of<B: Set>(relay: &Relay<B>) -> DiskUsers {
+    let mut users = DiskUsers::none();
+    if !relay.shape.is_spooled {
+        return users;
+    }
+    if relay.gone_gate.alarm(0).is_some() {
+        users = users.with(DiskUser::Parting);
+    }
+    if relay.shape.spool_size.is_some() {
+        return users.with(DiskUser::Keeper);
+    }
+    for sender in 0..relay.shape.senders {
+        users = users.with(DiskUser::Sender(sender));
+    }
+    users
+}
+
+/// Has the threads of a run make no call of the disk before it ends, so that nobody waits for the disk then, and answers commands by
+/// these answers until none is under way, for ten seconds at most. If the run is not to end, the threads go on.
+pub(crate) fn halt_disk<B: Set, R: Wait + Clock + Net, F: ReloadSource>(
     rt: &R,
     alloc: Global,
     relay: &Relay<B>,
     ports: &mut FirstPorts,
     watched: &mut ReportSource<'_, B, F>,
 ) -> Result<(), NotPrepared> {
-    if relay.shape.spool_size.is_none() {
+    let users = disk_users_of(relay);
+    if users.are_none() {
         return Ok(());
     }
     let stopper = relay.state.stopper();
-    stopper.halt_keeper(true);
+    stopper.halt_disk(true);
+    relay.gate.wake_all();
+    relay.gone_gate.wake_all();
     relay.keeper_gate.wake_all();
-    let halted = wait_for_keeper(rt, alloc, relay, ports, watched);
+    let wait = HaltingWait {
+        signals: relay.state.signals(),
+        users,
+    };
+    let halted = wait_for_disk(rt, alloc, relay, ports, watched, &wait);
     if halted.is_err() {
-        stopper.halt_keeper(false);
+        stopper.halt_disk(false);
     }
     halted
-}
-
-/// Answers commands by these answers until the keeper of the files does nothing, for ten seconds at most.
-fn wait_for_keeper<B: Set, R: Wait + Clock + Net, F: ReloadSource>(
-    rt: &R,
-    alloc: Global,
-    relay: &Relay<B>,
-    ports: &mut FirstPorts,
-    watched: &mut ReportSource<'_, B, F>,
-) -> Result<(), NotPrepared> {
-    let times = SystemTimes::since(rt, relay.began);
-    let end = times.millis().saturating_add(READING_TIMEOUT_MS);
-    for _ in rt.forever() {
-        if relay.state.signals().is_keeper_halted() {
-            return Ok(());
-        }
-        if take_turn(rt, alloc, relay, ports, watched, READING_PAUSE_MS) {
-            return Err(NotPrepared::Stopped);
-        }
-        if times.millis() >= end {
-            return Err(NotPrepared::Refused(RefusedReload::disk_hangs(alloc)));
-        }
-    }
-    unreachable!()
 }

@@ -7,6 +7,7 @@
 #![tactic(auto)]
 
 mod counters;
+mod disk_users;
 mod drain;
 mod end_orders;
 mod end_state;
@@ -23,6 +24,7 @@ mod stopper;
 mod thread_work;
 mod unsent;
 
+pub use disk_users::{DiskTurns, DiskUser, DiskUsers};
 pub use drain::Drain;
 pub use end_orders::EndOrders;
 pub use end_state::EndState;

@@ -2,6 +2,7 @@
 
 ghost use Rattle.std.specs.Prelude.{◌≡◌, ◌^◌, nat_lt, if◌then◌else◌};
 
+use crate::disk_users::{DiskUser, DiskUsers};
 use mio_loops::{ReadinessFault, StopFlag};
 use std::rt::Clock;
 use std::sync::Wait;
@@ -22,10 +23,11 @@ pub struct Signals {
     // The connections of the senders are files from now on.
     pub(crate) spooling: AtomicBool,
     pub(crate) senders: AtomicBool,
-    // The keeper of the files is to stop; before that it is to do nothing, and does nothing.
+    // The keeper of the files is to stop.
     pub(crate) keeper: AtomicBool,
+    // Nobody is to make a call of the disk, and who makes none: a bit each.
     pub(crate) halting: AtomicBool,
-    halted: AtomicBool,
+    halted: AtomicU64,
     pub(crate) watchers: AtomicBool,
     // The status server is to stop.
     pub(crate) status: AtomicBool,
@@ -51,7 +53,7 @@ impl Signals {
             senders: AtomicBool::new(false),
             keeper: AtomicBool::new(false),
             halting: AtomicBool::new(false),
-            halted: AtomicBool::new(false),
+            halted: AtomicU64::new(0),
             watchers: AtomicBool::new(false),
             status: AtomicBool::new(false),
             handing: AtomicBool::new(false),
@@ -93,19 +95,24 @@ impl Signals {
         self.keeper.load(Ordering::SeqCst)
     }
 
-    /// Whether the keeper of the files is to do nothing.
-    pub fn is_keeper_to_halt(&self) -> bool {
+    /// Whether nobody is to make a call of the disk.
+    pub(crate) fn is_disk_to_halt(&self) -> bool {
         self.halting.load(Ordering::SeqCst)
     }
 
-    /// The keeper of the files does nothing, so that no call to the disk is under way, or it goes on.
-    pub fn note_keeper_halted(&self, is_halted: bool) {
-        self.halted.store(is_halted, Ordering::SeqCst);
+    /// A thread makes no call of the disk, and none is under way, or it goes on.
+    pub(crate) fn note_disk_halted(&self, user: DiskUser, is_halted: bool) {
+        let bit = user.bit();
+        let _before = if is_halted {
+            self.halted.fetch_or(bit, Ordering::SeqCst)
+        } else {
+            self.halted.fetch_and(!bit, Ordering::SeqCst)
+        };
     }
 
-    /// Whether the keeper of the files does nothing.
-    pub fn is_keeper_halted(&self) -> bool {
-        self.halted.load(Ordering::SeqCst)
+    /// Whether these threads make no call of the disk.
+    pub fn are_disk_halted(&self, users: DiskUsers) -> bool {
+        self.halted.load(Ordering::SeqCst) & users.bits == users.bits
     }
 
     /// Whether the status server is to stop.

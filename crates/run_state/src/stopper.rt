@@ -40,8 +40,8 @@ impl<'s> Stopper<'s> {
         self.tell(&self.signals.senders);
     }
 
-    /// Has the keeper of the files do nothing before it is to stop, or go on as before.
-    pub fn halt_keeper(self, is_to_halt: bool) {
+    /// Has all threads make no call of the disk before the run ends, or go on as before.
+    pub fn halt_disk(self, is_to_halt: bool) {
         self.signals.halting.store(is_to_halt, Ordering::SeqCst);
     }
 

@@ -3,11 +3,15 @@
 use crate::alarm::Alarm;
 use locked_queues::{Gate, GatePoint};
 use relay_base::DestId;
-use std::thread;
+use std::sync::Wait;
+use std::sync::atomic::AtomicU64;
+use std::time::Duration;
 
-/// How often a thread gives its processor away at most for a sender that waits for one: a tenth of a millisecond if no other thread
-/// wants it.
-const MOST_YIELDS: usize = 200;
+/// How often a thread sleeps at most for a sender whose wait was ended and that waits for a processor, and for how many nanoseconds,
+/// to which the system adds about as much. A processor whose thread sleeps takes up one that waits.
+const MOST_NAPS: usize = 20;
+
+const NAP_NS: u64 = 50_000;
 
 /// A gate for the doors and outlets of queues: an offer to a destination ends the wait of its sender, if the
 /// sender is about to wait. Of `n` senders, sender `k` has the destinations `k`, `k + n` and so on.
@@ -17,12 +21,17 @@ const MOST_YIELDS: usize = 200;
 #[derive(Drop)]
 pub struct WakeGate {
     alarms: Vec<Alarm>,
+    // Nobody changes it: a wait for that lasts until its time is over.
+    naps: AtomicU64,
 }
 
 impl WakeGate {
     /// The gate that wakes the senders of these alarms, sender 0 first.
     pub fn new(alarms: Vec<Alarm>) -> WakeGate {
-        WakeGate { alarms }
+        WakeGate {
+            alarms,
+            naps: AtomicU64::new(0),
+        }
     }
 
     /// The alarm of a sender, if there is such a sender.
@@ -60,14 +69,14 @@ impl Gate for WakeGate {
         }
     }
 
-    /// Ends the wait of the sender, and gives the processor of this thread away, until the sender goes on: it may wait for one.
-    fn give_way(&self, dest: DestId) {
+    /// Ends the wait of the sender, and sleeps until it goes on, once at least: also one that does not wait may lack a processor.
+    fn give_way<R: Wait>(&self, rt: &R, dest: DestId) {
         let Some(alarm) = self.alarm_of(dest) else {
             return;
         };
         alarm.hurry();
-        for _ in 0..MOST_YIELDS {
-            thread::yield_now();
+        for _ in 0..MOST_NAPS {
+            self.naps.park_timeout(rt, 0, Duration::from_nanos(NAP_NS));
             if !alarm.is_late() {
                 break;
             }

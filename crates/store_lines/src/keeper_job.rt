@@ -9,7 +9,7 @@ use crate::spool_connector::SpoolConnector;
 use crate::spool_orders::SpoolOrders;
 use mio_loops::{SystemTimes, TimeSource};
 use relay_base::{DestId, NoMemory, add};
-use run_state::{BeginNote, EndOrders, Signals, ThreadWork};
+use run_state::{BeginNote, DiskUser, EndOrders, Signals, ThreadWork};
 use senders::{Connect, HalfClose, Lookup, StoreConnector, StoreStream, WakeGate};
 use spool::{KeptLines, SpoolBound, SpoolDisk, SpoolNotes};
 use std::alloc::{AllocError, Global};
@@ -157,7 +157,7 @@ impl<'x, R: Wait + Clock + Net + SpoolDisk + Copy + Drop> ThreadWork<R, ()> for 
         let times = SystemTimes::since(rt, began);
         places.take_files(rt, &share, &mut connector, times.millis());
         let KeeperPlaces { spool, dests, used } = places;
-        let orders = SpoolOrders::of(signals, orders);
+        let orders = SpoolOrders::of(signals, orders, DiskUser::Keeper);
         let connector = SpoolConnector::new(connector, *rt, spool, &share, orders).without_files();
         let mut keeper = Keeper {
             connector,
@@ -197,9 +197,7 @@ where
         if keeper.signals.keeper_stops() {
             return;
         }
-        let is_halted = keeper.signals.is_keeper_to_halt();
-        keeper.signals.note_keeper_halted(is_halted);
-        if is_halted {
+        if !keeper.connector.begin_turn() {
             rt.sleep(Duration::from_millis(HALT_MS));
             continue;
         }

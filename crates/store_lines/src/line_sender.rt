@@ -14,7 +14,7 @@ use crate::spool_connector::SpoolConnector;
 use crate::spool_orders::SpoolOrders;
 use mio_loops::TimeSource;
 use queue_records::Supply;
-use run_state::{BeginNote, EndOrders, EndState, Signals};
+use run_state::{BeginNote, DiskUser, EndOrders, EndState, Signals};
 use senders::{BatchSender, Connect, HalfClose, SenderRecord, StoreConnector, send_batches};
 use spool::SpoolDisk;
 use std::alloc::Global;
@@ -79,7 +79,7 @@ impl<'x, R: Wait + Clock + Net + SpoolDisk + Copy + Drop, Q: QueueLevels + Drop>
             levels,
             end,
         } = self;
-        let orders = SpoolOrders::of(signals, orders);
+        let orders = SpoolOrders::of(signals, orders, DiskUser::Sender(share.sender));
         let kept = places.take_lefts(rt, &share, &mut connector, divert, times.millis());
         let connector = DivertConnector::new(
             connector, *rt, levels, divert, share, orders,

@@ -11,20 +11,23 @@ use crate::spool_left::{SpooledLeft, spool_left};
 use crate::spool_orders::SpoolOrders;
 use mio_loops::{SystemTimes, TimeSource};
 use relay_base::DestId;
-use run_state::{EndOrders, GoneEnd, Signals, ThreadWork};
+use run_state::{DiskTurns, DiskUser, EndOrders, GoneEnd, Signals, ThreadWork};
 use senders::{Connect, HalfClose, StoreConnector};
 use spool::SpoolDisk;
 use std::alloc::{AllocError, Global};
 use std::net::Net;
 use std::rt::Clock;
 use std::sync::Wait;
-use std::time::Instant;
+use std::time::{Duration, Instant};
 
 /// For how many milliseconds a wait lasts at most: so late a try to connect begins.
 const MOST_WAIT_MS: u64 = 10;
 
 /// How many milliseconds the stores have to read to their end once nothing more is sent.
 const LONGEST_END_MS: u64 = 1_000;
+
+/// The milliseconds between two looks whether it may make calls of the disk.
+const TURN_MS: u64 = 1;
 
 /// A sender to destinations that are gone, as long as `--drain` allows: their connector, its places, and since when the
 /// milliseconds of a run count.
@@ -67,7 +70,7 @@ impl<'x, R: Wait + Clock + Net + SpoolDisk + Copy + Drop> ThreadWork<R, ()> for 
             senders: 1,
         };
         let times = SystemTimes::since(rt, began);
-        let orders = SpoolOrders::of(signals, orders);
+        let orders = SpoolOrders::of(signals, orders, DiskUser::Parting);
         let kept = places.take_lefts(rt, &share, &mut connector, None, times.millis());
         let connector = DivertConnector::new(
             connector, *rt, NoLevels, None, share, orders,
@@ -81,9 +84,11 @@ impl<'x, R: Wait + Clock + Net + SpoolDisk + Copy + Drop> ThreadWork<R, ()> for 
             orders,
         };
         send_left(rt, alloc, first, gone, &times);
-        if !signals.is_handing() {
+        let mut turns = orders.disk_turns();
+        if waits_for_turn(rt, &mut turns, signals) {
             spool_all(rt, alloc, gone, limit);
         }
+        turns.end();
         gone.note_sender_over();
     }
 }
@@ -191,6 +196,20 @@ fn end_connections<R: Wait + Clock, N: Connect>(
             return;
         }
     }
+}
+
+/// Waits until it may make calls of the disk. Returns whether it may: not if another run follows.
+fn waits_for_turn<R: Wait + Clock>(rt: &R, turns: &mut DiskTurns<'_>, signals: &Signals) -> bool {
+    for _ in rt.forever() {
+        if signals.is_handing() {
+            return false;
+        }
+        if turns.begin() {
+            return true;
+        }
+        rt.sleep(Duration::from_millis(TURN_MS));
+    }
+    unreachable!()
 }
 
 /// Writes to files what is left for destinations that are gone, if files keep that, and notes what became of it. The files stay in

@@ -143,6 +143,14 @@ impl<'n, W: Drop> SenderRests<'n, W> {
         self.dests.get_mut(place)?.take()
     }
 
+    /// Whether the first rest of a destination is to go to the file.
+    fn is_for_file(&self, place: usize) -> bool {
+        match self.dests.get(place) {
+            Some(dest) => dest.may_spool,
+            None => false,
+        }
+    }
+
     /// Takes the first rest of a destination, once, if it is to go to the file. Its connection, if there is one, is given up.
     fn take_for_file(&mut self, place: usize) -> Option<Rest> {
         let dest = self.dests.get_mut(place)?;
@@ -275,17 +283,21 @@ impl<'n, N: Connect> RestConnector<'n, N> {
 }
 
 impl<'n, N: Connect + RestFiles> RestConnector<'n, N> {
-    /// Writes the first rest of a destination to the file, once, if it is to go there.
-    fn spool_first(&mut self, dest: DestId) {
-        if !self.connector.may_spool(dest) {
-            return;
+    /// Writes the first rest of a destination to the file, once, if it is to go there. Returns whether that is done: not while no
+    /// call of the disk may be made.
+    fn spool_first(&mut self, dest: DestId) -> bool {
+        if !self.connector.may_spool(dest) || !self.rests.is_for_file(dest.0) {
+            return true;
         }
-        let Some(rest) = self.rests.take_for_file(dest.0) else {
-            return;
-        };
-        let in_hand = rest.in_hand() as u64;
-        let spooled = self.connector.spool_rest(self.alloc, dest, rest);
-        self.rests.put_back(dest.0, spooled, in_hand);
+        if !self.connector.may_use_disk() {
+            return false;
+        }
+        if let Some(rest) = self.rests.take_for_file(dest.0) {
+            let in_hand = rest.in_hand() as u64;
+            let spooled = self.connector.spool_rest(self.alloc, dest, rest);
+            self.rests.put_back(dest.0, spooled, in_hand);
+        }
+        true
     }
 }
 
@@ -307,7 +319,9 @@ impl<'n, N: Connect + RestFiles + Drop> Connect for RestConnector<'n, N> {
         if !self.rests.has_rest(dest.0) {
             return self.connector.connect(dest, millis);
         }
-        self.spool_first(dest);
+        if !self.spool_first(dest) {
+            return None;
+        }
         if !self.rests.is_open(dest.0) {
             let sink = self.connector.connect(dest, millis)?;
             self.rests.begin_connection(dest.0, sink);

@@ -13,6 +13,7 @@ use crate::spool_orders::SpoolOrders;
 use handover::Rest;
 use mio_loops::{LeftWriter, ReadinessFault};
 use relay_base::{DestId, MOST_DESTINATIONS};
+use run_state::DiskTurns;
 use senders::{Connect, HalfClose, KeptSocket, copy_list};
 use spool::{DestSpool, FileSink, KeptLines, SpoolDisk};
 use std::alloc::Global;
@@ -31,6 +32,9 @@ pub(crate) struct SpoolConnector<'n, 's, N: Connect, D> {
     spool: SenderSpool<'n, N::Sink>,
     slots: &'n DestSlots,
     orders: SpoolOrders<'s>,
+    // When it may make calls of the disk, and whether it may now.
+    turns: DiskTurns<'s>,
+    may_use_disk: bool,
     // Whether the last connections are files.
     may_spool: bool,
     ready: [DestId; MOST_DESTINATIONS],
@@ -54,6 +58,8 @@ where
             spool,
             slots: share.slots,
             orders,
+            turns: orders.disk_turns(),
+            may_use_disk: true,
             may_spool: true,
             ready: [DestId(0); MOST_DESTINATIONS],
         }
@@ -64,6 +70,12 @@ where
         let mut connector = self;
         connector.may_spool = false;
         connector
+    }
+
+    /// Begins a turn. Returns whether it may make calls of the disk until the next one begins.
+    pub(crate) fn begin_turn(&mut self) -> bool {
+        self.may_use_disk = self.turns.begin();
+        self.may_use_disk
     }
 
     /// The files of a destination.
@@ -169,23 +181,34 @@ where
         self.slots.leave_files(place, Some(files), socket);
     }
 
-    /// Waits; not at all if a file goes on at once. Connections that have closed take no more of their files.
+    /// Waits; not at all if a file goes on at once. Connections that have closed take no more of their files. A turn begins.
     fn wait_beside_files(&mut self, millis: u64) -> Result<&[DestId], ReadinessFault>
         ensures device { IfErr result (λ fault. fault ≡ ReadinessFault.Device) }
     {
-        let pause = if self.spool.goes_on() { 0 } else { millis };
+        let goes_on = self.begin_turn() && self.spool.goes_on();
+        let pause = if goes_on { 0 } else { millis };
         let count = copy_list(self.connector.wait(pause)?, &mut self.ready);
         self.spool.note_ready(&self.ready[..count]);
+        if self.may_use_disk {
+            self.note_closed();
+        }
+        Ok(&self.ready[..count])
+    }
+
+    /// Connections that have closed take no more of their files.
+    fn note_closed(&mut self) {
         for place in 0..self.spool.dests() {
             if self.connector.has_closed(DestId(place)) {
                 self.spool.note_closed(&self.disk, place);
             }
         }
-        Ok(&self.ready[..count])
     }
 
     /// The connection of a destination, once the file of an earlier run is sent.
     fn connect_behind_file(&mut self, dest: DestId, millis: u64) -> Option<N::Sink> {
+        if !self.may_use_disk && self.is_behind(dest.0) {
+            return None;
+        }
         if self.spool.awaits_end(&self.disk, dest.0, millis) {
             return None;
         }
@@ -252,6 +275,7 @@ where
         for place in 0..self.spool.dests() {
             self.leave(place);
         }
+        self.turns.end();
         self.connector.end();
     }
 
@@ -278,6 +302,10 @@ where
 {
     fn may_spool(&self, dest: DestId) -> bool {
         self.may_spool && self.spool.has_file(dest.0)
+    }
+
+    fn may_use_disk(&self) -> bool {
+        self.may_use_disk
     }
 
     fn spool_rest(&mut self, alloc: Global, dest: DestId, rest: Rest) -> SpooledRest {

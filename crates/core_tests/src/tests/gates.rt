@@ -54,7 +54,7 @@ impl Gate for Holds {
         }
     }
 
-    fn give_way(&self, _dest: DestId) {}
+    fn give_way<R: Wait>(&self, _rt: &R, _dest: DestId) {}
 }
 
 /// Waits for a flag, but not for ever.
