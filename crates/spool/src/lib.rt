@@ -15,7 +15,10 @@
 mod bound;
 mod clock;
 mod copy;
+mod dest_new;
+mod dest_opening;
 mod dest_segments;
+mod dest_sending;
 mod dest_spool;
 mod file_connection;
 mod file_names;
@@ -31,6 +34,7 @@ mod open_folder;
 mod part;
 mod pieces;
 mod pipe;
+mod put_aside;
 mod segments;
 mod sent_table;
 mod spool_disk;

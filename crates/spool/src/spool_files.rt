@@ -12,7 +12,9 @@ use std::fmt::Write as _;
 /// The files of all destinations of a relay, in their order, and what is to be said of them.
 #[derive(Drop)]
 pub struct SpoolFiles {
+    /// The files of each destination; `None` for one whose files were not to be opened.
     pub dests: Vec<Option<DestSpool>>,
+    /// What was found and put aside, in whole lines for the log.
     pub news: String,
 }
 
@@ -20,7 +22,9 @@ pub struct SpoolFiles {
 /// the fault stays so.
 #[derive(Drop)]
 pub struct Unopened {
+    /// The first fault.
     pub fault: OpenFault,
+    /// What was put aside before it, in whole lines for the log.
     pub news: String,
 }
 
