@@ -10,6 +10,7 @@
 //! `specs/LeftDest.antt` says what is left for a destination ([`LeftDest`]).
 #![tactic(auto)]
 
+mod carry_over;
 mod counted_connector;
 mod dest_rests;
 mod dest_slots;
@@ -26,6 +27,7 @@ mod line_sender;
 mod parting_job;
 mod rest_connector;
 mod rest_files;
+mod sender_files;
 mod sender_places;
 mod sender_spool;
 mod spool_connector;

@@ -4,6 +4,7 @@ ghost use Rattle.std.specs.Prelude.{◌≡◌, IfErr};
 ghost use Rattle.dest_writer.specs.Writer.{bytes_left};
 ghost use Rattle.handover.specs.Rest.{left_text};
 
+use crate::carry_over::{CarryOver, connect_behind, wait_beside};
 use crate::dest_rests::DestRests;
 use crate::left_dest::socket_of;
 use crate::rest_files::RestFiles;
@@ -15,7 +16,7 @@ use handover::{Rest, RestConnection};
 use mio_loops::{LeftBatch, LeftWriter, ReadinessFault};
 use relay_base::{DestId, MOST_DESTINATIONS, NoMemory, add};
 use run_state::{RestNotes, Signals};
-use senders::{Connect, KeptSocket, copy_list};
+use senders::{Connect, KeptSocket};
 use std::alloc::Global;
 use std::io::Write;
 
@@ -66,35 +67,6 @@ impl<'n, W: Drop> SenderRests<'n, W> {
         self.dests.iter().all(|dest| dest.rest.is_none())
     }
 
-    /// Whether a rest is left for a destination.
-    fn has_rest(&self, place: usize) -> bool {
-        match self.dests.get(place) {
-            Some(dest) => dest.rest.is_some(),
-            None => false,
-        }
-    }
-
-    /// Whether a rest goes on at once.
-    fn goes_on(&self) -> bool {
-        for dest in &self.dests {
-            if let Some(rest) = &dest.rest {
-                if rest.goes_on() {
-                    return true;
-                }
-            }
-        }
-        false
-    }
-
-    /// These destinations' connections are ready.
-    fn note_ready(&mut self, ready: &[DestId]) {
-        for dest in ready {
-            if let Some(rest) = self.rest_mut(dest.0) {
-                rest.note_ready();
-            }
-        }
-    }
-
     /// All connections are to be tried.
     fn note_all_ready(&mut self) {
         for place in 0..self.dests.len() {
@@ -107,35 +79,6 @@ impl<'n, W: Drop> SenderRests<'n, W> {
     /// The rest of a destination, if one is left.
     fn rest_mut(&mut self, place: usize) -> Option<&mut RestConnection<W>> {
         self.dests.get_mut(place)?.rest.as_mut()
-    }
-
-    /// The connection of a destination has closed.
-    fn lose(&mut self, place: usize) {
-        if let Some(rest) = self.rest_mut(place) {
-            if rest.is_open() {
-                rest.lose();
-            }
-        }
-    }
-
-    /// Whether the rest of a destination has a connection.
-    fn is_open(&self, place: usize) -> bool {
-        match self.dests.get(place) {
-            Some(
-                DestRests {
-                    rest: Some(rest),
-                    ..
-                },
-            ) => rest.is_open(),
-            _ => false,
-        }
-    }
-
-    /// The rest of a destination has this connection, which is another than its writer had.
-    fn begin_connection(&mut self, place: usize, sink: W) {
-        if let Some(rest) = self.rest_mut(place) {
-            rest.begin(sink);
-        }
     }
 
     /// Takes the rest of a destination, its connection, if there is one, and the later rest, if there is one.
@@ -190,8 +133,65 @@ impl<'n, W: Drop> SenderRests<'n, W> {
     }
 }
 
-impl<W: Write + Drop> SenderRests<'_, W> {
-    /// Sends some of the rest of a destination, and returns the connection once it took all of that, and of the later one.
+impl<W: Write + Drop> CarryOver<W> for SenderRests<'_, W> {
+    fn dests(&self) -> usize {
+        self.dests.len()
+    }
+
+    fn goes_on(&self) -> bool {
+        for dest in &self.dests {
+            if let Some(rest) = &dest.rest {
+                if rest.goes_on() {
+                    return true;
+                }
+            }
+        }
+        false
+    }
+
+    fn note_ready(&mut self, ready: &[DestId]) {
+        for dest in ready {
+            if let Some(rest) = self.rest_mut(dest.0) {
+                rest.note_ready();
+            }
+        }
+    }
+
+    fn note_closed(&mut self, place: usize) {
+        if let Some(rest) = self.rest_mut(place) {
+            if rest.is_open() {
+                rest.lose();
+            }
+        }
+    }
+
+    fn is_left(&self, place: usize) -> bool {
+        match self.dests.get(place) {
+            Some(dest) => dest.rest.is_some(),
+            None => false,
+        }
+    }
+
+    fn is_open(&self, place: usize) -> bool {
+        match self.dests.get(place) {
+            Some(
+                DestRests {
+                    rest: Some(rest),
+                    ..
+                },
+            ) => rest.is_open(),
+            _ => false,
+        }
+    }
+
+    // It is another connection than the writer had.
+    fn begin_connection(&mut self, place: usize, sink: W) {
+        if let Some(rest) = self.rest_mut(place) {
+            rest.begin(sink);
+        }
+    }
+
+    // The connection is for others once it took all of the rest, and of the later one.
     fn send(&mut self, place: usize) -> Option<W> {
         let Some(gathered) = &mut self.gathered else {
             return None;
@@ -250,21 +250,19 @@ impl<'n, N: Connect> RestConnector<'n, N> {
         }
     }
 
-    /// Waits; not at all if a rest goes on at once. Connections that have closed take no more of their rests. While the relay
-    /// ends, each is tried after a wait: the system reports late what a slow store takes.
+    /// Waits beside the rests. While the relay ends, each connection is tried after a wait: the system reports late what a slow
+    /// store takes.
     fn wait_beside_rests(&mut self, millis: u64) -> Result<&[DestId], ReadinessFault>
         ensures device { IfErr result (λ fault. fault ≡ ReadinessFault.Device) }
     {
-        let pause = if self.rests.goes_on() { 0 } else { millis };
-        let count = copy_list(self.connector.wait(pause)?, &mut self.ready);
-        self.rests.note_ready(&self.ready[..count]);
+        let count = wait_beside(
+            &mut self.connector,
+            &mut self.rests,
+            &mut self.ready,
+            millis,
+        )?;
         if self.signals.is_relay_ending() {
             self.rests.note_all_ready();
-        }
-        for place in 0..self.rests.dests.len() {
-            if self.connector.has_closed(DestId(place)) {
-                self.rests.lose(place);
-            }
         }
         Ok(&self.ready[..count])
     }
@@ -316,17 +314,10 @@ impl<'n, N: Connect + RestFiles + Drop> Connect for RestConnector<'n, N> {
     }
 
     fn connect(&mut self, dest: DestId, millis: u64) -> Option<N::Sink> {
-        if !self.rests.has_rest(dest.0) {
-            return self.connector.connect(dest, millis);
-        }
-        if !self.spool_first(dest) {
+        if self.rests.is_left(dest.0) && !self.spool_first(dest) {
             return None;
         }
-        if !self.rests.is_open(dest.0) {
-            let sink = self.connector.connect(dest, millis)?;
-            self.rests.begin_connection(dest.0, sink);
-        }
-        self.rests.send(dest.0)
+        connect_behind(&mut self.connector, &mut self.rests, dest, millis)
     }
 
     fn has_closed(&self, dest: DestId) -> bool {
@@ -341,7 +332,7 @@ impl<'n, N: Connect + RestFiles + Drop> Connect for RestConnector<'n, N> {
     /// destination is this sender's and had no rest.
     fn hand_over(&mut self, dest: DestId, left: LeftWriter<N::Sink>) {
         let is_own = self.share.has(dest.0);
-        if !is_own || !self.signals.is_handing() || self.rests.has_rest(dest.0) {
+        if !is_own || !self.signals.is_handing() || self.rests.is_left(dest.0) {
             return;
         }
         let LeftWriter { batch, sink } = left;

@@ -2,10 +2,12 @@
 
 ghost use Rattle.std.specs.Prelude.{◌≡◌, IfErr};
 
+use crate::carry_over::{connect_behind, wait_beside};
 use crate::dest_slots::DestSlots;
 use crate::file_end::PartEnd;
 use crate::left_dest::socket_of;
 use crate::rest_files::RestFiles;
+use crate::sender_files::SenderFiles;
 use crate::sender_places::Share;
 use crate::sender_spool::{SenderSpool, half_close};
 use crate::spool_left::{SpooledRest, spool_rest};
@@ -13,8 +15,7 @@ use crate::spool_orders::SpoolOrders;
 use handover::Rest;
 use mio_loops::{LeftWriter, ReadinessFault};
 use relay_base::{DestId, MOST_DESTINATIONS};
-use run_state::DiskTurns;
-use senders::{Connect, HalfClose, KeptSocket, copy_list};
+use senders::{Connect, HalfClose, KeptSocket};
 use spool::{DestSpool, FileSink, KeptLines, SpoolDisk};
 use std::alloc::Global;
 use std::io;
@@ -28,13 +29,9 @@ use std::io::Write;
 #[derive(Drop)]
 pub(crate) struct SpoolConnector<'n, 's, N: Connect, D> {
     connector: N,
-    disk: D,
-    spool: SenderSpool<'n, N::Sink>,
+    files: SenderFiles<'n, 's, N::Sink, D>,
     slots: &'n DestSlots,
     orders: SpoolOrders<'s>,
-    // When it may make calls of the disk, and whether it may now.
-    turns: DiskTurns<'s>,
-    may_use_disk: bool,
     // Whether the last connections are files.
     may_spool: bool,
     ready: [DestId; MOST_DESTINATIONS],
@@ -54,12 +51,9 @@ where
     ) -> SpoolConnector<'n, 's, N, D> {
         SpoolConnector {
             connector,
-            disk,
-            spool,
+            files: SenderFiles::new(spool, disk, orders.disk_turns()),
             slots: share.slots,
             orders,
-            turns: orders.disk_turns(),
-            may_use_disk: true,
             may_spool: true,
             ready: [DestId(0); MOST_DESTINATIONS],
         }
@@ -74,49 +68,42 @@ where
 
     /// Begins a turn. Returns whether it may make calls of the disk until the next one begins.
     pub(crate) fn begin_turn(&mut self) -> bool {
-        self.may_use_disk = self.turns.begin();
-        self.may_use_disk
+        self.files.begin_turn()
     }
 
     /// The files of a destination.
     pub(crate) fn files_mut(&mut self, place: usize) -> Option<&mut DestSpool> {
-        self.spool.files_mut(place)
+        self.files.spool.files_mut(place)
     }
 
     /// Sends some of the earlier files of a destination, if there are, and connects to it for them alone.
     pub(crate) fn send_files(&mut self, dest: DestId, millis: u64) {
-        if self.spool.awaits_end(&self.disk, dest.0, millis) {
+        if self.files.awaits_end(dest.0, millis) {
             return;
         }
-        if !self.spool.is_behind(dest.0) {
-            self.spool.leave_connection(dest.0);
+        if !self.files.spool.is_behind(dest.0) {
+            self.files.spool.leave_connection(dest.0);
             return;
         }
-        if !self.spool.has_sink(dest.0) {
-            let Some(sink) = self.connector.connect(dest, millis) else {
-                return;
-            };
-            self.spool.keep(dest.0, sink);
-        }
-        if let Some(sink) = self.spool.send(&self.disk, dest.0) {
+        if let Some(sink) = connect_behind(&mut self.connector, &mut self.files, dest, millis) {
             half_close(sink);
         }
     }
 
     /// Whether an earlier file of a destination is not sent yet, or not known to be at its store.
     pub(crate) fn is_behind(&self, place: usize) -> bool {
-        self.spool.is_behind(place) || self.spool.is_sending(place)
+        self.files.spool.is_behind(place) || self.files.spool.is_sending(place)
     }
 
     /// Whether files of a destination hold lines that are to be sent.
     pub(crate) fn has_files(&self, dest: DestId) -> bool {
-        self.spool.is_behind(dest.0)
+        self.files.spool.is_behind(dest.0)
     }
 
     /// Sends some of the lines that no file takes, of a destination of which no file is left, and connects to it for them alone.
     /// Returns whether a connection has some of them, and its store has not ended it.
     pub(crate) fn send_kept(&mut self, dest: DestId, millis: u64, lines: &mut KeptLines) -> bool {
-        match self.spool.kept_end(dest.0, millis) {
+        match self.files.spool.kept_end(dest.0, millis) {
             Some(PartEnd::Open) => return true,
             Some(PartEnd::Taken) | Some(PartEnd::NoEnd) => {
                 lines.pass_all();
@@ -128,38 +115,38 @@ where
             }
             None => {}
         }
-        if !self.spool.has_sink(dest.0) {
+        if !self.files.spool.has_sink(dest.0) {
             let Some(sink) = self.connector.connect(dest, millis) else {
                 return false;
             };
             lines.send_again();
-            self.spool.keep(dest.0, sink);
+            self.files.spool.keep(dest.0, sink);
         }
-        self.spool.send_kept(dest.0, lines)
+        self.files.spool.send_kept(dest.0, lines)
     }
 
     /// Gives up the connection that has lines which no file takes. Returns whether it is lost.
     pub(crate) fn leave_kept(&mut self, dest: DestId) -> bool {
-        let is_lost = self.spool.has_lost_kept(dest.0);
-        self.spool.leave_connection(dest.0);
+        let is_lost = self.files.spool.has_lost_kept(dest.0);
+        self.files.spool.leave_connection(dest.0);
         is_lost
     }
 
     /// Whether the store of a destination takes more of the earlier file at once, or is about to end the connection that took a
     /// part.
     pub(crate) fn takes_more(&self, place: usize) -> bool {
-        self.spool.takes_more(place)
+        self.files.spool.takes_more(place)
     }
 
     /// Whether the last connection of a destination is its new file.
     fn is_spooling(&self, dest: DestId) -> bool {
-        self.may_spool && self.orders.is_spooled(dest) && !self.spool.is_none()
+        self.may_spool && self.orders.is_spooled(dest) && !self.files.spool.is_none()
     }
 
     /// Leaves the files of a destination in their slot, with the socket that the earlier one goes out on if another run
     /// follows.
     fn leave(&mut self, place: usize) {
-        let Some((mut files, sink)) = self.spool.take(place) else {
+        let Some((mut files, sink)) = self.files.spool.take(place) else {
             return;
         };
         let Some(sink) = sink else {
@@ -172,7 +159,7 @@ where
             DestId(place),
             sink,
         );
-        let notes = self.spool.notes.get(place);
+        let notes = self.files.spool.notes.get(place);
         match &socket {
             Some(_) => {}
             None if self.orders.is_handing() => files.send_again(notes),
@@ -181,45 +168,29 @@ where
         self.slots.leave_files(place, Some(files), socket);
     }
 
-    /// Waits; not at all if a file goes on at once. Connections that have closed take no more of their files. A turn begins.
+    /// Begins a turn, and waits beside the files.
     fn wait_beside_files(&mut self, millis: u64) -> Result<&[DestId], ReadinessFault>
         ensures device { IfErr result (λ fault. fault ≡ ReadinessFault.Device) }
     {
-        let goes_on = self.begin_turn() && self.spool.goes_on();
-        let pause = if goes_on { 0 } else { millis };
-        let count = copy_list(self.connector.wait(pause)?, &mut self.ready);
-        self.spool.note_ready(&self.ready[..count]);
-        if self.may_use_disk {
-            self.note_closed();
-        }
+        let _may_use_disk = self.files.begin_turn();
+        let count = wait_beside(
+            &mut self.connector,
+            &mut self.files,
+            &mut self.ready,
+            millis,
+        )?;
         Ok(&self.ready[..count])
-    }
-
-    /// Connections that have closed take no more of their files.
-    fn note_closed(&mut self) {
-        for place in 0..self.spool.dests() {
-            if self.connector.has_closed(DestId(place)) {
-                self.spool.note_closed(&self.disk, place);
-            }
-        }
     }
 
     /// The connection of a destination, once the file of an earlier run is sent.
     fn connect_behind_file(&mut self, dest: DestId, millis: u64) -> Option<N::Sink> {
-        if !self.may_use_disk && self.is_behind(dest.0) {
+        if !self.files.may_use_disk() && self.is_behind(dest.0) {
             return None;
         }
-        if self.spool.awaits_end(&self.disk, dest.0, millis) {
+        if self.files.awaits_end(dest.0, millis) {
             return None;
         }
-        if !self.spool.is_behind(dest.0) {
-            return self.connector.connect(dest, millis);
-        }
-        if !self.spool.has_sink(dest.0) {
-            let sink = self.connector.connect(dest, millis)?;
-            self.spool.keep(dest.0, sink);
-        }
-        self.spool.send(&self.disk, dest.0)
+        connect_behind(&mut self.connector, &mut self.files, dest, millis)
     }
 }
 
@@ -230,7 +201,7 @@ where
     type Sink = SpoolSink<'n, N::Sink, D>;
 
     fn wait(&mut self, millis: u64) -> Result<&[DestId], ReadinessFault> {
-        if self.spool.is_none() {
+        if self.files.spool.is_none() {
             return self.connector.wait(millis);
         }
         self.wait_beside_files(millis)
@@ -242,17 +213,14 @@ where
 
     fn connect(&mut self, dest: DestId, millis: u64) -> Option<SpoolSink<'n, N::Sink, D>> {
         if self.is_spooling(dest) {
-            let files = self.spool.take_files(&self.disk, dest.0)?;
-            let notes = self.spool.notes.get(dest.0);
-            let file = FileSink::new(self.disk, files, self.spool.limit(), notes);
-            return Some(SpoolSink::File(file));
+            return Some(SpoolSink::File(self.files.last_file(dest.0)?));
         }
         Some(SpoolSink::Store(self.connect_behind_file(dest, millis)?))
     }
 
     fn has_closed(&self, dest: DestId) -> bool {
         if self.is_spooling(dest) {
-            return self.spool.has_file(dest.0);
+            return self.files.spool.has_file(dest.0);
         }
         self.connector.has_closed(dest)
     }
@@ -272,10 +240,10 @@ where
     }
 
     fn end(&mut self) {
-        for place in 0..self.spool.dests() {
+        for place in 0..self.files.spool.dests() {
             self.leave(place);
         }
-        self.turns.end();
+        self.files.end_turns();
         self.connector.end();
     }
 
@@ -301,15 +269,15 @@ where
     N::Sink: HalfClose,
 {
     fn may_spool(&self, dest: DestId) -> bool {
-        self.may_spool && self.spool.has_file(dest.0)
+        self.may_spool && self.files.spool.has_file(dest.0)
     }
 
     fn may_use_disk(&self) -> bool {
-        self.may_use_disk
+        self.files.may_use_disk()
     }
 
     fn spool_rest(&mut self, alloc: Global, dest: DestId, rest: Rest) -> SpooledRest {
-        let Some((files, sink)) = self.spool.take(dest.0) else {
+        let Some((files, sink)) = self.files.spool.take(dest.0) else {
             return SpooledRest {
                 left: Some(rest),
                 kept: 0,
@@ -318,8 +286,14 @@ where
             };
         };
         drop(sink);
-        let mut spooled = spool_rest(self.disk, alloc, rest, files, self.spool.limit());
-        self.spool.begin(dest.0, spooled.files.take(), None);
+        let mut spooled = spool_rest(
+            self.files.disk,
+            alloc,
+            rest,
+            files,
+            self.files.spool.limit(),
+        );
+        self.files.spool.begin(dest.0, spooled.files.take(), None);
         spooled
     }
 }
