@@ -1,4 +1,5 @@
 pub mod EndLemmas
 pub mod HeldLemmas
+pub mod KeptLemmas
 pub mod PipeLemmas
 pub mod SendingLemmas

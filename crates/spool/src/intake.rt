@@ -1,6 +1,7 @@
 //! What a sender writes to while a destination is diverted.
 
-ghost use Rattle.std.specs.Prelude.{◌≤◌, length};
+ghost use Rattle.std.specs.Prelude.{◌≡◌, ◌≤◌, ◌<◌, [], length};
+ghost use Rattle.backlog.specs.Lines.{whole_lines};
 
 use crate::pipe::Pipe;
 use relay_base::NoMemory;
@@ -131,7 +132,10 @@ impl Intake {
     }
 
     /// The keeper takes the whole lines that are there, if it has nothing of them yet.
-    pub(crate) fn take_lines<R: Wait>(&self, rt: &R, lines: &mut Vec<u8>) {
+    pub(crate) fn take_lines<R: Wait>(&self, rt: &R, lines: &mut Vec<u8>)
+        ensures whole { lines.old.items ≡ [] → whole_lines lines.new.items ≡ lines.new.items }
+        ensures some { 0 < length lines.old.items → lines.new.items ≡ lines.old.items }
+    {
         if lines.is_empty() {
             lines.clear();
             self.inside.lock(rt).pipe.take_lines(lines);

@@ -354,11 +354,8 @@ where
         };
         if dest.is_sending {
             dest.is_sending = false;
-            if self.connector.leave_kept(DestId(place)) {
-                dest.lines.send_again();
-            } else {
-                dest.lines.pass_taken();
-            }
+            let is_lost = self.connector.leave_kept(DestId(place));
+            dest.lines.leave_connection(is_lost);
         }
     }
 
