@@ -133,43 +133,34 @@ fn run_threads<
             ensures served { Served (opening (A.is_first first.entry.work.now))
                 (W.contents first.entry.output.now) (W.contents result.1.output.now) result.0.served }
         {
+            let signals = stopper.signals();
+            let started = start_all(scope, rt, alloc, jobs, SignalLink { signals });
             let WithOutput { work, output } = first;
-            let ends = run_in_scope(scope, rt, alloc, jobs, stopper, &mut *work, &mut *output);
+            let ends = run_in_scope(rt, alloc, stopper, started, &mut *work, &mut *output);
             (ends, WithOutput { work, output })
         },
     )
 }
 
-/// Runs the threads in their scope: starts them, serves, and ends them.
+/// Runs the threads that were started in their scope: serves, and ends them.
 fn run_in_scope<
-    's,
-    E,
-    R: Threads + Wait + Clock + Sync,
-    J: ThreadWork<R, ThreadEnd<DoorRecord, FedLog>> + Send + Drop + 's,
-    K: ThreadWork<R, ThreadEnd<OutletRecord, Vec<WriteLog>>> + Send + Drop + 's,
-    G: ThreadWork<R, ()> + Send + Drop + 's,
-    H: ThreadWork<R, ()> + Send + Drop + 's,
-    L: ThreadWork<R, O> + Send + Drop + 's,
-    V: ThreadWork<R, S> + Send + Drop + 's,
-    O: Send + Drop + 's,
-    S: Send + Drop + 's,
+    R: Threads + Wait + Clock,
+    O: Send + Drop,
+    S: Send + Drop,
     A: FirstWork<R, O, S>,
     W: Write,
 >(
-    scope: &Scope<'s, E>,
-    rt: &'s R,
+    rt: &R,
     alloc: Global,
-    jobs: Jobs<J, K, G, H, L, V>,
-    stopper: Stopper<'s>,
+    stopper: Stopper<'_>,
+    started: StartedThreads<O, S>,
     work: &mut A,
     output: &mut W,
 ) -> ThreadEnds
     ensures { Served (opening (A.is_first work.old))
         (W.contents output.old) (W.contents output.new) result.served }
 {
-    let signals = stopper.signals();
-    let started = start_all(scope, rt, alloc, jobs, SignalLink { signals });
-    let are_begun = started.wait_for_begun(rt, signals);
+    let are_begun = started.wait_for_begun(rt, stopper.signals());
     let served = serve_if(rt, alloc, are_begun, work, output);
     end_threads(rt, alloc, stopper, started, served, work)
 }
