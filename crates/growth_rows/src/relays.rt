@@ -4,7 +4,9 @@ use crate::marks::{print_answer, print_text};
 use finished_run::NoRecorder;
 use relay_base::NoMemory;
 use relay_files::{RelayFault, RunConfiguration, Source, Sources, Status};
-use relay_run::{FilesAsked, RefusedReload, RelayRuntime, ReloadSource, RunOptions};
+use relay_run::{
+    FilesAsked, RefusedReload, RelayRuntime, ReloadSource, RunObservers, RunOptions, RunSetup,
+};
 use spool::{SpoolFiles, Unopened};
 use std::alloc::Global;
 use std::io::{Read, Sink, Write};
@@ -119,18 +121,16 @@ fn run_until_stopped<R: RelayRuntime>(
         rules: None,
         rewrite: None,
     };
-    let options = RunOptions::new(admin, 1);
-    relay_run::run(
-        rt,
-        alloc,
-        &mut sources,
-        options,
-        output,
-        None::<Sink>,
-        None::<NoRecorder>,
-        None,
-        &NoFiles,
-    )
+    let setup = RunSetup {
+        options: RunOptions::new(admin, 1),
+        folder: None,
+        files: &NoFiles,
+    };
+    let observers = RunObservers {
+        log: None::<Sink>,
+        recorder: None::<NoRecorder>,
+    };
+    relay_run::run(rt, alloc, &mut sources, setup, output, observers)
 }
 
 /// Prints the status of a run, or its fault.

@@ -39,15 +39,35 @@ const WATCHING_PAUSE_MS: u64 = 5;
 /// How many milliseconds a turn waits at most at the end of a run: so late is seen what it waits for.
 const END_PAUSE_MS: u64 = 1;
 
-/// The admin port of a relay, with what the first thread works on, who reads files for a reload, what all runs have in common,
-/// and who records runs.
+/// The admin port of a relay, with what the first thread works on, who reads files for a reload, the folder for what is not sent, if
+/// there is one, and who records runs.
 #[derive(Drop)]
 pub(crate) struct AdminPort<'p, B: Set, L, F, K> {
     pub(crate) relay: &'p Relay<B>,
     pub(crate) state: &'p mut FirstState<B, L>,
     pub(crate) files: &'p F,
-    pub(crate) process: &'p Process<'p>,
+    pub(crate) folder: Option<SpoolFolder<'p>>,
     pub(crate) recorder: &'p mut Option<K>,
+}
+
+impl<'p, B: Set, L, F, K> AdminPort<'p, B, L, F, K> {
+    /// The admin port of a relay of this process, with what its first thread works on, and who records its runs.
+    pub(crate) fn of(
+        relay: &'p Relay<B>,
+        state: &'p mut FirstState<B, L>,
+        process: &'p Process<'p, F>,
+        recorder: &'p mut Option<K>,
+    ) -> AdminPort<'p, B, L, F, K>
+        ensures { is_none result.state.now.before.waiting ≡ is_none state.old.before.waiting }
+    {
+        AdminPort {
+            relay,
+            state,
+            files: process.setup.files,
+            folder: process.setup.folder,
+            recorder,
+        }
+    }
 }
 
 /// What the first thread of a run works on: its ports, what is still to do for the run before, the run that is to follow, once it
@@ -384,7 +404,7 @@ impl<
         } = &mut *self.state;
         answer_reloaded(rt, relay, ports, before);
         end_before(rt, alloc, relay, before, self.recorder);
-        let (files, folder) = (self.files, self.process.folder);
+        let (files, folder) = (self.files, self.folder);
         put(
             next,
             answer_until_ended(rt, alloc, relay, ports, files, folder),

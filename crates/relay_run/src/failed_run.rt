@@ -17,26 +17,26 @@ use std::io::Write;
 use store_lines::{DestSlots, spool_slots};
 
 /// Writes to files what ended runs left to one that could not be opened, and says how much was kept and lost.
-pub(crate) fn spool_inherited<R: RelayRuntime>(
+pub(crate) fn spool_inherited<R: RelayRuntime, F>(
     rt: &R,
     alloc: Global,
     inherited: Inherited,
-    process: &Process<'_>,
+    process: &Process<'_, F>,
 ) {
     let limit = process.file_limit();
     let left = spool_both(rt, alloc, &inherited.slots, &inherited.gone.slots, limit);
     drop(inherited);
-    say_left(alloc, left, process.folder);
+    say_left(alloc, left, process.setup.folder);
 }
 
 /// Writes to files what a run held that failed, if it is one of a reload: that before, of which what the threads recorded could
 /// not be kept, or that behind, which could not begin. Says how much was kept and lost, in the log if it is there.
-pub(crate) fn spool_failed<B: Set, R: RelayRuntime, L: Write + Drop>(
+pub(crate) fn spool_failed<B: Set, R: RelayRuntime, L: Write + Drop, F>(
     rt: &R,
     alloc: Global,
     relay: Relay<B>,
     next: Option<PreparedRun<B>>,
-    process: &Process<'_>,
+    process: &Process<'_, F>,
     log: Option<LogEnd<L>>,
 ) {
     let left = left_by(rt, alloc, relay, next, process);
@@ -45,17 +45,17 @@ pub(crate) fn spool_failed<B: Set, R: RelayRuntime, L: Write + Drop>(
             drop(receivers);
             write_left(alloc, left, output);
         }
-        None => say_left(alloc, left, process.folder),
+        None => say_left(alloc, left, process.setup.folder),
     }
 }
 
 /// Writes to files what a run held that failed, if it is one of a reload. Returns how much was kept and lost.
-fn left_by<B: Set, R: RelayRuntime>(
+fn left_by<B: Set, R: RelayRuntime, F>(
     rt: &R,
     alloc: Global,
     relay: Relay<B>,
     next: Option<PreparedRun<B>>,
-    process: &Process<'_>,
+    process: &Process<'_, F>,
 ) -> GoneEnd {
     let room = match next {
         Some(PreparedRun { next, room }) => {

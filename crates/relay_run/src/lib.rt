@@ -31,6 +31,8 @@ mod reload_source;
 mod report_source;
 mod run_command;
 mod run_levels;
+mod run_observers;
+mod run_setup;
 mod running;
 mod runtime;
 mod sender_job;
@@ -50,5 +52,7 @@ pub use relay_ports::{
 };
 pub use reload_source::{RefusedReload, ReloadSource};
 pub use run_command::run;
+pub use run_observers::RunObservers;
+pub use run_setup::RunSetup;
 pub use runtime::RelayRuntime;
 pub use spool_folder::{SpoolFault, SpoolFolder};

@@ -84,12 +84,12 @@ pub(crate) struct KeptByFirst {
 }
 
 /// What a run begins with that follows this one, at these milliseconds. It can do without the memory that it takes.
-pub(crate) fn start_after(
+pub(crate) fn start_after<F>(
     alloc: Global,
     ended: &mut EndedRun,
     prepared: NextPlan,
     kept: KeptByFirst,
-    process: &Process<'_>,
+    process: &Process<'_, F>,
     millis: u64,
 ) -> Start {
     let NextPlan {
@@ -122,7 +122,7 @@ pub(crate) fn start_after(
     drop(said);
     let mut new_places = new_places;
     new_places.inherit(ended, &places, &mut found);
-    let drain_millis = process.options.drain().saturating_mul(1_000);
+    let drain_millis = process.setup.options.drain().saturating_mul(1_000);
     new_places.add_gone(ended, millis.saturating_add(drain_millis));
     let inherited = inherited_of(alloc, ended, new_places, logged, news);
     let mut shared = shared;

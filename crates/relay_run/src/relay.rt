@@ -107,11 +107,11 @@ pub(crate) struct RefusedStart {
 impl<B: Set> Relay<B> {
     /// Opens the relay of a run of this number, whose log goes to this output, if it has one. Refuses if out of memory, and gives
     /// back what ended runs left.
-    pub(crate) fn open<L: Drop>(
+    pub(crate) fn open<L: Drop, F>(
         alloc: Global,
         start: Start,
         log: Option<L>,
-        process: &Process<'_>,
+        process: &Process<'_, F>,
         number: u64,
     ) -> Result<OpenRelay<B, L>, RefusedStart>
         requires table { start.blank ≡ B.table }
@@ -187,11 +187,11 @@ impl<B: Set> Relay<B> {
 }
 
 /// An open relay of a run of this number, with what its threads are given.
-fn open_relay<B: Set, L: Drop>(
+fn open_relay<B: Set, L: Drop, F>(
     begun: Begun,
     opened: Opened<B>,
     log: Option<L>,
-    process: &Process<'_>,
+    process: &Process<'_, F>,
     number: u64,
 ) -> OpenRelay<B, L>
     requires dests { begun.shape.dests ≡ B.dests }

@@ -19,7 +19,7 @@ ghost use Rattle.relay_run.specs.Running.{RunEnds, RelayFails, ClosesWith, EndsW
 ghost use Rattle.run_threads.specs.Served.{opening, ready_line};
 ghost use Rattle.relay_run.specs.AfterRun.{EndsARun, IfStopped, IfFollowed};
 
-use crate::admin::{FirstState, RunBefore};
+use crate::admin::{AdminPort, FirstState, RunBefore};
 use crate::closing::write_end;
 use crate::ended_run::ended_of;
 use crate::failed_run::{spool_failed, spool_inherited};
@@ -27,16 +27,18 @@ use crate::next_start::{KeptByFirst, start_after};
 use crate::prepared_run::PreparedRun;
 use crate::relay::{NAME, OpenRelay, Parts, Relay};
 use crate::reload_source::ReloadSource;
+use crate::run_observers::RunObservers;
+use crate::run_setup::RunSetup;
 use crate::running::run_until_ended;
 use crate::runtime::RelayRuntime;
-use crate::spool_folder::{SpoolFolder, put_failures};
+use crate::spool_folder::put_failures;
 use crate::start::{Process, Start};
 use crate::thread_records::RunLeft;
 use finished_run::Recorder;
 use locked_queues::Set;
 use mio_loops::{SystemTimes, TimeSource};
 use relay_files::{RelayFault, RunConfiguration, Source, Sources, Status};
-use relay_ports::{FirstPorts, RunOptions};
+use relay_ports::FirstPorts;
 use senders::HostThreads;
 use std::alloc::Global;
 use std::io::Write;
@@ -92,12 +94,9 @@ pub fn run<
     rt: &R,
     alloc: Global,
     sources: &mut Sources<S>,
-    options: RunOptions,
+    setup: RunSetup<'_, F>,
     output: &mut W,
-    log: Option<L>,
-    recorder: Option<K>,
-    spool: Option<SpoolFolder<'_>>,
-    files: &F,
+    observers: RunObservers<L, K>,
 ) -> Result<Status, RelayFault>
     // At a status the files are a configuration. If the bytes of the output are known, it has gained `ready` and the line
     // that says how the last run settled, and the status is that of the same settling.
@@ -115,14 +114,13 @@ pub fn run<
     let configuration = RunConfiguration::read(alloc, sources)?;
     let hosts = HostThreads::new(alloc);
     let process = Process {
-        options,
-        folder: spool,
+        setup,
         hosts: &hosts,
-        is_recorded: recorder.is_some(),
+        is_recorded: observers.recorder.is_some(),
         began: Instant::now(rt).ok(),
     };
     match Start::new(rt, alloc, configuration, &process) {
-        Ok(start) => run_all(rt, alloc, start, &process, output, log, recorder, files),
+        Ok(start) => run_all(rt, alloc, start, &process, output, observers),
         Err(fault) => Err(fault),
     }
 }
@@ -151,15 +149,14 @@ fn run_all<R: RelayRuntime, W: Write, L: Write + Send + Drop, K: Recorder + Drop
     rt: &R,
     alloc: Global,
     start: Start,
-    process: &Process<'_>,
+    process: &Process<'_, F>,
     output: &mut W,
-    log: Option<L>,
-    recorder: Option<K>,
-    files: &F,
+    observers: RunObservers<L, K>,
 ) -> Result<Status, RelayFault>
     ensures ok { IfOk result (RunEnds ready_line (W.contents output.old) (W.contents output.new)) }
     ensures err { IfErr result (RelayFails (W.contents output.old) (W.contents output.new)) }
 {
+    let RunObservers { log, recorder } = observers;
     let mut recorder = recorder;
     let mut next = NextRun {
         start,
@@ -168,7 +165,7 @@ fn run_all<R: RelayRuntime, W: Write, L: Write + Send + Drop, K: Recorder + Drop
         number: 1,
     };
     for _ in rt.forever() {
-        match one_run(rt, alloc, next, process, output, &mut recorder, files) {
+        match one_run(rt, alloc, next, process, output, &mut recorder) {
             Ok(AfterRun::Stopped(status)) => return Ok(status),
             Ok(AfterRun::Followed(following)) => next = following,
             Err(fault) => return Err(fault),
@@ -182,15 +179,14 @@ fn one_run<R: RelayRuntime, W: Write, L: Write + Send + Drop, K: Recorder + Drop
     rt: &R,
     alloc: Global,
     next: NextRun<L>,
-    process: &Process<'_>,
+    process: &Process<'_, F>,
     output: &mut W,
     recorder: &mut Option<K>,
-    files: &F,
 ) -> Result<AfterRun<L>, RelayFault>
     ensures { EndsARun (opening (is_none next.before.waiting))
         (W.contents output.old) (W.contents output.new) result }
 {
-    run_relay::<Brand, R, W, L, K, F>(rt, alloc, next, process, output, recorder, files)
+    run_relay::<Brand, R, W, L, K, F>(rt, alloc, next, process, output, recorder)
 }
 
 /// Opens a relay, lends it to its run, and takes it apart.
@@ -205,10 +201,9 @@ fn run_relay<
     rt: &R,
     alloc: Global,
     next: NextRun<L>,
-    process: &Process<'_>,
+    process: &Process<'_, F>,
     output: &mut W,
     recorder: &mut Option<K>,
-    files: &F,
 ) -> Result<AfterRun<L>, RelayFault>
     requires table { next.start.blank ≡ B.table }
     requires name { NAME ≡ B.name }
@@ -244,9 +239,9 @@ fn run_relay<
         log: None,
         server: None,
     };
-    let left = run_until_ended(
-        rt, alloc, &relay, parts, &*files, &*process, &mut state, output, recorder,
-    );
+    let mut port = AdminPort::of(&relay, &mut state, &*process, &mut *recorder);
+    let left = run_until_ended(rt, alloc, &mut port, process.hosts, parts, output);
+    drop(port);
     let FirstState {
         ports,
         before,
@@ -277,7 +272,7 @@ fn run_relay<
         None => {
             put_failures(
                 alloc,
-                process.folder,
+                process.setup.folder,
                 relay.noted().dests,
                 relay.state.spool_notes(),
             );
@@ -334,13 +329,13 @@ fn stopped<L: Drop>(ended: Result<Status, RelayFault>) -> Result<AfterRun<L>, Re
 }
 
 /// Takes a relay apart whose run has ended, and makes of it what the next one begins with. All that this needs is there.
-fn follow<B: Set, R: RelayRuntime, L: Drop>(
+fn follow<B: Set, R: RelayRuntime, L: Drop, F>(
     rt: &R,
     alloc: Global,
     relay: Relay<B>,
     left: RunLeft<L>,
     next: PreparedRun<B>,
-    process: &Process<'_>,
+    process: &Process<'_, F>,
 ) -> NextRun<L>
     ensures { is_none result.before.waiting ≡ false }
 {

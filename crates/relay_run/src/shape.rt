@@ -87,7 +87,7 @@ impl Shape {
 
 /// The shape of a process's run of settings, with this number of ports at which receivers listen. If there is none, one
 /// receiver has a seat all the same, which is closed unused.
-pub(crate) fn shape_of(settings: &Settings, ports: usize, process: &Process<'_>) -> Shape
+pub(crate) fn shape_of<F>(settings: &Settings, ports: usize, process: &Process<'_, F>) -> Shape
     ensures dests { (result.dests ≡ length settings.now.routing.destinations)
         × (1 ≤ result.dests) × (result.dests ≤ MOST_DESTINATIONS) }
     ensures size { (1 ≤ result.size) × (result.size ≤ LARGEST_QUEUE_SIZE) }
@@ -95,7 +95,7 @@ pub(crate) fn shape_of(settings: &Settings, ports: usize, process: &Process<'_>)
     ensures receivers { (1 ≤ result.receivers) × (result.receivers ≤ MOST_RECEIVERS) }
     ensures senders { (1 ≤ result.senders) × (result.senders ≤ MOST_SENDERS) }
 {
-    let options = process.options;
+    let options = process.setup.options;
     Shape {
         dests: settings.destinations().len(),
         size: settings.max_queue_size(),
@@ -108,7 +108,7 @@ pub(crate) fn shape_of(settings: &Settings, ports: usize, process: &Process<'_>)
         admin: options.admin(),
         status: options.status(),
         is_recorded: process.is_recorded,
-        is_spooled: process.folder.is_some(),
+        is_spooled: process.setup.folder.is_some(),
         spool_size: process.spool_size(),
     }
 }

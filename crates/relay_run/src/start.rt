@@ -4,6 +4,7 @@ ghost use Rattle.std.specs.Prelude.{◌≡◌, ◌≤◌, true, length, IfErr};
 ghost use Rattle.relay_ports.specs.StartFault.{is_start_fault};
 
 use crate::inherited::Inherited;
+use crate::run_setup::RunSetup;
 use crate::runtime::RelayRuntime;
 use crate::shape::{Shape, shape_of};
 use crate::shared_parts::SharedParts;
@@ -12,7 +13,7 @@ use conf_text::Settings;
 use locked_queues::BlankTotals;
 use relay_base::NoMemory;
 use relay_files::{RelayFault, RunConfiguration};
-use relay_ports::{Ports, RunOptions, bind_all};
+use relay_ports::{Ports, bind_all};
 use relay_watchers::StatusServer;
 use senders::HostThreads;
 use spool::{OpenFault, Unopened};
@@ -44,21 +45,20 @@ pub(crate) struct Begun {
     ghost senders: { (1 ≤ shape.senders) × (shape.senders ≤ 8) },
 }
 
-/// What all runs of a process have in common: how they run, the folder for what is not sent, if there is one, the threads that
-/// look hosts up, whether they are recorded, and since when their milliseconds count.
-#[derive(Clone, Copy)]
-pub(crate) struct Process<'a> {
-    pub(crate) options: RunOptions,
-    pub(crate) folder: Option<SpoolFolder<'a>>,
+/// What all runs of a process have in common: how its program has them run, the threads that look hosts up, whether they are
+/// recorded, and since when their milliseconds count.
+#[derive(Drop)]
+pub(crate) struct Process<'a, F> {
+    pub(crate) setup: RunSetup<'a, F>,
     pub(crate) hosts: &'a HostThreads,
     pub(crate) is_recorded: bool,
     pub(crate) began: Option<Instant>,
 }
 
-impl Process<'_> {
+impl<F> Process<'_, F> {
     /// How many bytes files may have while the relay runs, if it diverts destinations to files.
     pub(crate) fn spool_size(&self) -> Option<u64> {
-        match self.folder {
+        match self.setup.folder {
             Some(folder) => folder.size,
             None => None,
         }
@@ -66,7 +66,7 @@ impl Process<'_> {
 
     /// The system's limit for the size of a file, in bytes, if there is one.
     pub(crate) fn file_limit(&self) -> Option<u64> {
-        match self.folder {
+        match self.setup.folder {
             Some(folder) => folder.limit,
             None => None,
         }
@@ -76,16 +76,16 @@ impl Process<'_> {
 impl Start {
     /// What the first run of a process begins with: binds the ports of its configuration, and reads the folder of what was not
     /// sent, if there is one. Refuses a fault of the start; what was bound is closed again.
-    pub(crate) fn new<R: RelayRuntime>(
+    pub(crate) fn new<R: RelayRuntime, F>(
         rt: &R,
         alloc: Global,
         configuration: RunConfiguration,
-        process: &Process<'_>,
+        process: &Process<'_, F>,
     ) -> Result<Start, RelayFault>
         ensures { IfErr result (λ fault. is_start_fault fault ≡ true) }
     {
         let settings = configuration.settings();
-        let ports = match bind_all(rt, alloc, settings, process.options) {
+        let ports = match bind_all(rt, alloc, settings, process.setup.options) {
             Ok(ports) => with_server(alloc, ports),
             Err(fault) => {
                 drop(configuration);
@@ -93,7 +93,7 @@ impl Start {
             }
         };
         let shape = shape_of(settings, ports.receivers.len(), process);
-        match begin_with(rt, alloc, settings, &shape, process) {
+        match begin_with(rt, alloc, settings, &shape, process.setup.folder) {
             Ok((inherited, blank, shared)) => {
                 let begun = Begun {
                     configuration,
@@ -160,13 +160,13 @@ fn begin_with<R: RelayRuntime>(
     alloc: Global,
     settings: &Settings,
     shape: &Shape,
-    process: &Process<'_>,
+    folder: Option<SpoolFolder<'_>>,
 ) -> Result<(Inherited, BlankTotals, SharedParts), RelayFault>
     ensures { IfErr result (λ fault. is_start_fault fault ≡ true) }
 {
-    let (inherited, blank) = match found_by(rt, alloc, settings, shape, process) {
+    let (inherited, blank) = match found_by(rt, alloc, settings, shape, folder) {
         Ok(found) => found,
-        Err(unopened) => return Err(put_fault(process.folder, unopened)),
+        Err(unopened) => return Err(put_fault(folder, unopened)),
     };
     match SharedParts::new(rt, alloc, *shape, false) {
         Ok(shared) => Ok((inherited, blank, shared)),
@@ -184,9 +184,9 @@ fn found_by<R: RelayRuntime>(
     alloc: Global,
     settings: &Settings,
     shape: &Shape,
-    process: &Process<'_>,
+    folder: Option<SpoolFolder<'_>>,
 ) -> Result<(Inherited, BlankTotals), Unopened> {
-    let files = match open_files(rt, alloc, settings.destinations(), process.folder) {
+    let files = match open_files(rt, alloc, settings.destinations(), folder) {
         Ok(files) => files,
         Err(unopened) => return Err(unopened),
     };

@@ -56,7 +56,7 @@ use read_files::ReadsFiles;
 use record_file::recorder_of;
 use relay_commands::{HandedForm, check};
 use relay_files::{RelayFault, Status};
-use relay_run::{RunOptions, StatusOptions, SystemTables};
+use relay_run::{RunObservers, RunOptions, RunSetup, StatusOptions, SystemTables};
 use relay_watchers::SystemFacts;
 use reload_files::RelayFiles;
 use replaying::{run_replay, run_replay_lines};
@@ -198,16 +198,21 @@ where
                 run_check(files, alloc, paths, OutputForm::Json)?;
                 explain::write_start_notes(files, alloc, paths);
             }
+            let observers = RunObservers {
+                log: log_output(rt, alloc, *threads, options.log)?,
+                recorder,
+            };
             let ended = relay_run::run(
                 threads,
                 alloc,
                 &mut sources_at(files, alloc, paths)?,
-                relay_options(*options, admin_key.is_some()),
+                RunSetup {
+                    options: relay_options(*options, admin_key.is_some()),
+                    folder,
+                    files: &started,
+                },
                 &mut limited_output(rt),
-                log_output(rt, alloc, *threads, options.log)?,
-                recorder,
-                folder,
-                &started,
+                observers,
             );
             let status = end_with_fault(rt, &own, ended)?;
             Ok(match status {

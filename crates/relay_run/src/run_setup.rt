@@ -1,0 +1,16 @@
+//! How a program has a relay run.
+
+use crate::spool_folder::SpoolFolder;
+use relay_ports::RunOptions;
+
+/// How a program has a relay run: by these options, with this folder for what is not sent, if there is one, and with who reads its
+/// files for a reload.
+#[derive(Drop)]
+pub struct RunSetup<'a, F> {
+    /// How it receives and sends.
+    pub options: RunOptions,
+    /// The folder for what is not sent, if there is one.
+    pub folder: Option<SpoolFolder<'a>>,
+    /// Who reads its files for a reload.
+    pub files: &'a F,
+}
