@@ -121,10 +121,11 @@ fn run_until_stopped<R: RelayRuntime>(
         rules: None,
         rewrite: None,
     };
+    let files = NoFiles;
     let setup = RunSetup {
         options: RunOptions::new(admin, 1),
         folder: None,
-        files: &NoFiles,
+        files: &files,
     };
     let observers = RunObservers {
         log: None::<Sink>,
