@@ -1,9 +1,11 @@
 """Words of the command line: options, refusals, help and version."""
 
+import os
 import re
 
 from fixtures.configured import NAME, WithFiles
 from fixtures.harness import GREATEST_TIME, Ran, Suite, run, short
+from fixtures.program import TOP
 
 LINES = b"a 1 -1\nb 2 3\n"
 
@@ -222,6 +224,68 @@ class Files(Words, WithFiles):
     def test_pass_takes_files_and_does_not_read_them(self):
         for option in ("--config", "--rules", "--rewrite"):
             self.expect(b"a 1 2\n", b"a 1 2\n", words=("pass", option, "missing"))
+
+
+class Numbers(Words):
+    """Options whose value is a number: the help, the refusals and the pages have one range of each."""
+
+    # An option in the help of a command, what its value is called there, and the range of that.
+    RANGE = re.compile(r"(?ms)^ +--([a-z-]+) <([A-Z]+)>((?:(?!^ +-).)*?)\b(\d+) to (\d+)\b")
+    # Words that each command needs beside an option.
+    NEEDED = {"pass": {}, "check": {"config": "x"}, "route": {"config": "x", "name": NAME}, "replay": {"config": "x", "script": "y"},
+              "run": {"config": "x", "admin": "1"}, "report": {"admin": "1"}, "watch": {"admin": "1"}, "stop": {"admin": "1"},
+              "restart": {"config": "x", "admin": "1"}, "reload": {"admin": "1"}}
+
+    def ranges(self, command):
+        """The options of a command whose help has a range: its name, what its value is called, and its two ends."""
+        shown = run((command, "-h")).out.decode()
+        return [(name, value, int(least), int(most)) for name, value, _, least, most in self.RANGE.findall(shown)]
+
+    def words_with(self, command, name, number):
+        """The words of a command with this number at an option."""
+        needed = {other: value for other, value in self.NEEDED[command].items() if other != name}
+        if (command, name) == ("route", "admin"):
+            needed.pop("config")
+        bare = [needed.pop(other) for other in ("name", "script") if other in needed]
+        return (command, f"--{name}={number}", *(f"--{other}={value}" for other, value in needed.items()), *bare)
+
+    def test_a_number_beside_the_range_of_the_help_is_refused_with_it(self):
+        """Those at its ends are not."""
+        found = set()
+        for command in self.NEEDED:
+            for name, value, least, most in self.ranges(command):
+                found.add(name)
+                said = f"error: invalid value '%s' for '--{name} <{value}>': not {least} to {most} in decimal digits\n"
+                for number in (str(least - 1), str(most + 1), "", "1x"):
+                    words = self.words_with(command, name, number)
+                    with self.subTest():
+                        ran = run(words)
+                        self.assertEqual((ran.status, ran.out), (2, b""), words)
+                        self.assertTrue(ran.err.decode().startswith(said % number), (words, ran.err))
+        self.assertGreaterEqual(len(found), 11)
+
+    def test_the_ends_of_a_range_are_taken(self):
+        for command in ("pass", "check", "run"):
+            for name, _, least, most in self.ranges(command):
+                if name in ("admin", "status"):
+                    continue
+                for number in (least, most):
+                    words = self.words_with(command, name, number)
+                    with self.subTest():
+                        self.assertNotEqual(run(words).status, 2, words)
+
+    def test_the_man_page_and_the_reference_have_these_ranges(self):
+        with open(os.path.join(TOP, "packaging", "relayd.1"), encoding="utf-8") as file:
+            man = dict(re.findall(r"(?ms)^\.TP\n\.BI? --([a-z-]+)(.*?)(?=^\.TP|^\.SH|^\.PP)", file.read().replace("\\-", "-")))
+        with open(os.path.join(TOP, "docs", "REFERENCE.md"), encoding="utf-8") as file:
+            page = {name: (int(least), int(most.replace(",", ""))) for name, least, most
+                    in re.findall(r"(?m)^\| `--([a-z-]+)` \| (\d+) to ([\d,]+)", file.read())}
+        self.assertGreaterEqual(set(page), {"drain", "idle"})
+        for command in self.NEEDED:
+            for name, _, least, most in self.ranges(command):
+                with self.subTest():
+                    self.assertIn(f"{least} to {most}", " ".join(man[name].split()), name)
+                    self.assertEqual(page.get(name, (least, most)), (least, most), name)
 
 
 class Help(Words):
