@@ -6,7 +6,7 @@ from typing import NamedTuple, Optional
 
 from rooms import TOP
 
-TABLES = [os.path.join(TOP, "crates", "command_line", "src", name) for name in ("commands.rt", "client_words.rt")]
+TABLES = [os.path.join(TOP, "crates", "command_line", "src", name) for name in ("commands.rt", "run_options.rt", "client_words.rt")]
 FORMS = os.path.join(TOP, "crates", "command_line", "src", "log_form.rt")
 STRING = r'"((?:[^"\\]|\\.)*)"'
 WORD = re.compile(rf"Word \{{\s*name: {STRING},\s*form: Form::(\w+)(?:\(([^)]*)\))?,\s*help: {STRING},\s*\}}")

@@ -2,10 +2,10 @@
 
 use crate::commands::{EXPLAIN, FILES, JSON};
 use crate::long_help::{RELOAD_HELP, REPORT_HELP, RESTART_HELP, STOP_HELP, WATCH_HELP};
+use crate::number_option::ADMIN_PORT;
 use crate::options::{check_paths, path_option};
 use crate::words::{CommandWords, Form, Word};
 use clap::{ArgMatches, Error};
-use relay_base::whole_number_up_to;
 use std::alloc::Global;
 
 /// The words that `relayd report` takes.
@@ -128,7 +128,7 @@ pub(crate) fn admin_at(
 ) -> Result<AdminAt, Error> {
     check_paths(alloc, options, command)?;
     Ok(AdminAt {
-        port: client_port(alloc, options, command)?,
+        port: ADMIN_PORT.port(alloc, options, command)?,
         key: path_option(alloc, options, "admin-key")?,
     })
 }
@@ -142,18 +142,5 @@ pub(crate) fn admin_option(
     match options.get_str("admin") {
         Some(_) => Ok(Some(admin_at(alloc, options, command)?)),
         None => Ok(None),
-    }
-}
-
-/// The port of `--admin` among these words.
-fn client_port(
-    alloc: Global,
-    options: &ArgMatches<'_>,
-    command: &CommandWords,
-) -> Result<u16, Error> {
-    let text = options.get_str("admin").unwrap_or("");
-    match whole_number_up_to(text, u16::MAX as u64) {
-        Some(port) if port > 0 => Ok(port as u16),
-        _ => Err(command.range_error(alloc, text, "--admin <PORT>", "1 to 65535")?),
     }
 }

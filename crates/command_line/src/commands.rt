@@ -1,13 +1,14 @@
 //! The words that `relayd` and each of its commands take, with their help.
 
-use crate::client_words::{ADMIN_KEY, RELOAD, REPORT, RESTART, STOP, WATCH};
-use crate::long_help::{CHECK_HELP, PASS_HELP, RELAYD_HELP, REPLAY_HELP, ROUTE_HELP, RUN_HELP};
+use crate::client_words::{RELOAD, REPORT, RESTART, STOP, WATCH};
+use crate::long_help::{CHECK_HELP, PASS_HELP, RELAYD_HELP, REPLAY_HELP, ROUTE_HELP};
+use crate::run_options::RUN;
 use crate::words::{Choice, CommandWords, Form, Word};
 use clap::Command;
 use std::alloc::{AllocError, Global};
 
 /// The version of the program, as `--version` prints it: that of a release, or, with `-dev`, what may become that one.
-pub const VERSION: &str = "0.4.0-dev";
+pub(crate) const VERSION: &str = "0.4.0-dev";
 
 /// The words that `relayd` takes.
 pub fn relayd_command<'a>(alloc: Global) -> Result<Command<'a>, AllocError> {
@@ -203,80 +204,6 @@ pub(crate) static REPLAY: CommandWords = CommandWords {
         name: "what",
         words: ["lines", "script"],
     }],
-};
-
-/// The words that `relayd run` takes.
-pub(crate) static RUN: CommandWords = CommandWords {
-    name: "run",
-    full_name: "relayd run",
-    about: "Runs the relay: receives datapoints and sends them to the destinations",
-    long_help: RUN_HELP,
-    files: FILES,
-    words: &[
-        Word {
-            name: "admin",
-            form: Form::NeededValue("PORT"),
-            help: "The port on 127.0.0.1 for report, watch, stop, restart and reload, 1 to 65535",
-        },
-        ADMIN_KEY,
-        Word {
-            name: "senders",
-            form: Form::ValueOr("N", "1"),
-            help: "The number of threads that send, 1 to 8",
-        },
-        Word {
-            name: "line-receivers",
-            form: Form::ValueOr("N", "1"),
-            help: "The number of threads that receive lines, 1 to 6",
-        },
-        Word {
-            name: "idle",
-            form: Form::ValueOr("SECONDS", "0"),
-            help: "Closes a connection that sends no datapoint for SECONDS, 0 to 86400; 0 closes none",
-        },
-        Word {
-            name: "drain",
-            form: Form::ValueOr("SECONDS", "0"),
-            help: "After stop, keeps sending queued datapoints for at most SECONDS, 0 to 3600",
-        },
-        Word {
-            name: "spool",
-            form: Form::Value("DIR"),
-            help: "After stop, keeps what was not sent in files in DIR, and sends them at the next start",
-        },
-        Word {
-            name: "spool-size",
-            form: Form::ValueWith("BYTES", "spool"),
-            help: "Keeps what queues cannot hold in DIR while it runs, in at most BYTES, 1048576 or more",
-        },
-        Word {
-            name: "status",
-            form: Form::Value("PORT"),
-            help: "Serves a status page, JSON and metrics over HTTP on this port, 1 to 65535",
-        },
-        Word {
-            name: "status-interface",
-            form: Form::ValueWith("ADDRESS", "status"),
-            help: "The IP address that --status listens on; by default 127.0.0.1",
-        },
-        Word {
-            name: "log",
-            form: Form::Flag,
-            help: "Writes events to standard error: connections made and lost, drops, bad input",
-        },
-        Word {
-            name: "log-format",
-            form: Form::Value("FORM"),
-            help: "Writes them as text, timed (with time and level), or json",
-        },
-        Word {
-            name: "record",
-            form: Form::Value("FILE"),
-            help: "After stop, writes the run to FILE as a script for replay",
-        },
-        EXPLAIN,
-    ],
-    choices: &[],
 };
 
 /// The files of a configuration, for a command that reads them, and the limit of the names that rewriting leaves.

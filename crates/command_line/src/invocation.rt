@@ -1,19 +1,21 @@
 //! What the words of a command line ask for.
 
 use crate::client_words::{AdminAt, RELOAD, REPORT, RESTART, STOP, WATCH, admin_at, admin_option};
-use crate::commands::{CHECK, REPLAY, ROUTE, RUN, relayd_command};
+use crate::commands::{CHECK, REPLAY, ROUTE, relayd_command};
 use crate::explain::Explain;
+use crate::log_form::LogForm;
 use crate::options::{explain_option, moment_option, path_option, path_options, text_option};
 use crate::output_form::{OutputForm, RouteOutput, form_option, route_output};
 use crate::pass_input::{PassInput, pass_input};
 use crate::paths::Paths;
-use crate::run_options::{RunOptions, run_options};
+use crate::run_options::{RUN, log_option, run_options};
 use crate::standard_input::{CONFIGURATION_FILES, REPLAY_FILES, ROUTE_FILES, check_inputs};
 use crate::tips::with_tip;
 use crate::watch_options::{Watching, watching_of};
 use clap::error::ErrorKind;
 use clap::{ArgMatches, Error};
 use line_text::Moment;
+use relay_options::RunOptions;
 use std::alloc::Global;
 
 /// What the words ask for.
@@ -72,11 +74,12 @@ pub enum Invocation {
         output: RouteOutput,
         explain: Explain,
     },
-    /// `run`: a relay of these files, the file of its admin port's key, the path of its record, and the directory of its spool,
-    /// if any.
+    /// `run`: a relay of these files that runs so, the form of its log, the file of its admin port's key, the path of its record,
+    /// and the directory of its spool, if any.
     Run {
         paths: Paths,
         options: RunOptions,
+        log: Option<LogForm>,
         admin_key: Option<String>,
         record: Option<String>,
         spool: Option<String>,
@@ -181,6 +184,7 @@ fn run_invocation(alloc: Global, options: &ArgMatches<'_>) -> Result<Invocation,
     check_inputs(alloc, options, &RUN, CONFIGURATION_FILES)?;
     Ok(Invocation::Run {
         options: run_options(alloc, options)?,
+        log: log_option(alloc, options)?,
         admin_key: path_option(alloc, options, "admin-key")?,
         record: path_option(alloc, options, "record")?,
         spool: path_option(alloc, options, "spool")?,

@@ -2,6 +2,7 @@
 
 use crate::commands::PASS;
 use crate::explain::Explain;
+use crate::number_option::NumberOption;
 use crate::paths::Paths;
 use crate::words::{CommandWords, Form, Word};
 use clap::error::ErrorKind;
@@ -11,6 +12,20 @@ use pass_lines::moment_of;
 use relay_base::whole_number_up_to;
 use relay_files::{LongestName, MOST_CHARACTERS};
 use std::alloc::{AllocError, Global};
+
+const LONGEST_NAME: NumberOption = NumberOption {
+    name: "longest-name",
+    value: "N",
+    least: 1,
+    most: MOST_CHARACTERS as u64,
+};
+
+const MOMENT: NumberOption = NumberOption {
+    name: "moment",
+    value: "N",
+    least: 0,
+    most: 9_007_199_254_740_992,
+};
 
 /// Which notes the options ask for.
 pub fn explain_option(options: &ArgMatches<'_>, is_strict: bool) -> Explain {
@@ -41,13 +56,11 @@ fn longest_name_option(
     options: &ArgMatches<'_>,
     command: &CommandWords,
 ) -> Result<Option<LongestName>, Error> {
-    let Some(text) = options.get_str("longest-name") else {
+    let Some(text) = options.get_str(LONGEST_NAME.name) else {
         return Ok(None);
     };
-    match longest_name_in(text) {
-        Some(longest) => Ok(Some(longest)),
-        None => { Err(command.range_error(alloc, text, "--longest-name <N>", "1 to 4000")?) }
-    }
+    let longest = LONGEST_NAME.checked(alloc, options, command, longest_name_in(text))?;
+    Ok(Some(longest))
 }
 
 fn longest_name_in(text: &str) -> Option<LongestName> {
@@ -122,9 +135,6 @@ fn path_kind(form: Form) -> Option<&'static str> {
 
 /// The moment of `--moment`.
 pub fn moment_option(alloc: Global, options: &ArgMatches<'_>) -> Result<Moment, Error> {
-    let text = options.get_str("moment").unwrap_or("0");
-    match moment_of(text) {
-        Some(moment) => Ok(moment),
-        None => Err(PASS.range_error(alloc, text, "--moment <N>", "0 to 9007199254740992")?),
-    }
+    let moment = moment_of(MOMENT.text(options));
+    MOMENT.checked(alloc, options, &PASS, moment)
 }

@@ -1,79 +1,162 @@
-//! What the options of `run` ask for.
+//! The options of `run`: its words, and what they ask for.
 
-use crate::commands::RUN;
+use crate::client_words::ADMIN_KEY;
+use crate::commands::{EXPLAIN, FILES, VERSION};
 use crate::log_form::{LogForm, log_form_in};
-use crate::senders::{Senders, senders_in};
+use crate::long_help::RUN_HELP;
+use crate::number_option::{ADMIN_PORT, NumberOption};
+use crate::words::{CommandWords, Form, Word};
 use clap::error::ErrorKind;
 use clap::{ArgMatches, Error};
-use relay_base::{MOST_LINE_RECEIVERS, whole_number_up_to};
+use queue_records::MOST_SENDERS;
+use relay_base::MOST_LINE_RECEIVERS;
+use relay_options::{RunOptions, StatusOptions, line_receivers_in, senders_in};
 use std::alloc::Global;
 use std::net::{IpAddr, SocketAddr};
 
-/// The greatest number of seconds that `--drain` takes, and that `--idle` takes.
-const LONGEST_DRAIN_SECONDS: u64 = 3_600;
+/// The words that `relayd run` takes.
+pub(crate) static RUN: CommandWords = CommandWords {
+    name: "run",
+    full_name: "relayd run",
+    about: "Runs the relay: receives datapoints and sends them to the destinations",
+    long_help: RUN_HELP,
+    files: FILES,
+    words: &[
+        Word {
+            name: "admin",
+            form: Form::NeededValue("PORT"),
+            help: "The port on 127.0.0.1 for report, watch, stop, restart and reload, 1 to 65535",
+        },
+        ADMIN_KEY,
+        Word {
+            name: "senders",
+            form: Form::ValueOr("N", "1"),
+            help: "The number of threads that send, 1 to 8",
+        },
+        Word {
+            name: "line-receivers",
+            form: Form::ValueOr("N", "1"),
+            help: "The number of threads that receive lines, 1 to 6",
+        },
+        Word {
+            name: "idle",
+            form: Form::ValueOr("SECONDS", "0"),
+            help: "Closes a connection that sends no datapoint for SECONDS, 0 to 86400; 0 closes none",
+        },
+        Word {
+            name: "drain",
+            form: Form::ValueOr("SECONDS", "0"),
+            help: "After stop, keeps sending queued datapoints for at most SECONDS, 0 to 3600",
+        },
+        Word {
+            name: "spool",
+            form: Form::Value("DIR"),
+            help: "After stop, keeps what was not sent in files in DIR, and sends them at the next start",
+        },
+        Word {
+            name: "spool-size",
+            form: Form::ValueWith("BYTES", "spool"),
+            help: "Keeps what queues cannot hold in DIR while it runs, in at most BYTES, 1048576 or more",
+        },
+        Word {
+            name: "status",
+            form: Form::Value("PORT"),
+            help: "Serves a status page, JSON and metrics over HTTP on this port, 1 to 65535",
+        },
+        Word {
+            name: "status-interface",
+            form: Form::ValueWith("ADDRESS", "status"),
+            help: "The IP address that --status listens on; by default 127.0.0.1",
+        },
+        Word {
+            name: "log",
+            form: Form::Flag,
+            help: "Writes events to standard error: connections made and lost, drops, bad input",
+        },
+        Word {
+            name: "log-format",
+            form: Form::Value("FORM"),
+            help: "Writes them as text, timed (with time and level), or json",
+        },
+        Word {
+            name: "record",
+            form: Form::Value("FILE"),
+            help: "After stop, writes the run to FILE as a script for replay",
+        },
+        EXPLAIN,
+    ],
+    choices: &[],
+};
 
-const LONGEST_IDLE_SECONDS: u64 = 86_400;
+const SENDERS: NumberOption = NumberOption {
+    name: "senders",
+    value: "N",
+    least: 1,
+    most: MOST_SENDERS as u64,
+};
 
-/// The least number of bytes that `--spool-size` takes, and the greatest.
-const LEAST_SPOOL_BYTES: u64 = 1_048_576;
+const LINE_RECEIVERS: NumberOption = NumberOption {
+    name: "line-receivers",
+    value: "N",
+    least: 1,
+    most: MOST_LINE_RECEIVERS as u64,
+};
 
-const MOST_SPOOL_BYTES: u64 = 1_152_921_504_606_846_976;
+const IDLE: NumberOption = NumberOption {
+    name: "idle",
+    value: "SECONDS",
+    least: 0,
+    most: 86_400,
+};
 
-/// What the options of `run` ask for, beside files and notes.
-#[derive(Clone, Copy)]
-pub struct RunOptions {
-    /// The port of 127.0.0.1 for commands, from 1 on.
-    pub admin: u16,
-    /// How many threads send.
-    pub senders: Senders,
-    /// How many threads receive lines, 1 to 6.
-    pub line_receivers: usize,
-    /// For how many seconds the senders go on after `stop`, 0 to 3,600.
-    pub drain: u64,
-    /// After how many seconds an idle connection is closed, 0 to 86,400; with 0 none is.
-    pub idle: u64,
-    /// How many bytes the files of its spool may have while it runs, 1,048,576 to 1,152,921,504,606,846,976; without that they are
-    /// written at its end alone.
-    pub spool_size: Option<u64>,
-    /// Where the status server listens, if any.
-    pub status: Option<SocketAddr>,
-    /// The form of the log, if there is one.
-    pub log: Option<LogForm>,
-}
+const DRAIN: NumberOption = NumberOption {
+    name: "drain",
+    value: "SECONDS",
+    least: 0,
+    most: 3_600,
+};
 
-/// What the options ask for.
+const SPOOL_SIZE: NumberOption = NumberOption {
+    name: "spool-size",
+    value: "BYTES",
+    least: 1_048_576,
+    most: 1_152_921_504_606_846_976,
+};
+
+const STATUS: NumberOption = NumberOption {
+    name: "status",
+    value: "PORT",
+    least: 1,
+    most: 65_535,
+};
+
+/// How the options ask for a relay to run.
 pub fn run_options(alloc: Global, options: &ArgMatches<'_>) -> Result<RunOptions, Error> {
+    let senders = senders_in(SENDERS.text(options));
+    let line_receivers = line_receivers_in(LINE_RECEIVERS.text(options));
     Ok(RunOptions {
-        admin: admin_option(alloc, options)?,
-        senders: senders_option(alloc, options)?,
-        line_receivers: line_receivers_option(alloc, options)?,
-        drain: seconds_option(alloc, options, "drain", LONGEST_DRAIN_SECONDS)?,
-        idle: seconds_option(alloc, options, "idle", LONGEST_IDLE_SECONDS)?,
-        spool_size: spool_size_option(alloc, options)?,
-        status: status_option(alloc, options)?,
-        log: log_option(alloc, options)?,
+        admin: ADMIN_PORT.port(alloc, options, &RUN)?,
+        senders: SENDERS.checked(alloc, options, &RUN, senders)?,
+        line_receivers: LINE_RECEIVERS.checked(alloc, options, &RUN, line_receivers)?,
+        drain: DRAIN.number(alloc, options, &RUN)?,
+        idle: IDLE.number(alloc, options, &RUN)?,
+        spool_size: SPOOL_SIZE.number_if_given(alloc, options, &RUN)?,
+        status: status_options(alloc, options)?,
     })
 }
 
-/// The port of `--admin`.
-fn admin_option(alloc: Global, options: &ArgMatches<'_>) -> Result<u16, Error> {
-    let text = options.get_str("admin").unwrap_or("");
-    match whole_number_up_to(text, u16::MAX as u64) {
-        Some(port) if port > 0 => Ok(port as u16),
-        _ => refuse(alloc, text, "--admin <PORT>", "1 to 65535"),
-    }
-}
-
-/// Where the server of `--status` listens.
-fn status_option(alloc: Global, options: &ArgMatches<'_>) -> Result<Option<SocketAddr>, Error> {
+/// What the options of the status server ask for, if there is to be one.
+fn status_options(alloc: Global, options: &ArgMatches<'_>) -> Result<Option<StatusOptions>, Error> {
     let address = interface_option(alloc, options)?;
-    let Some(text) = options.get_str("status") else {
+    if options.get_str(STATUS.name).is_none() {
         return Ok(None);
-    };
-    match whole_number_up_to(text, u16::MAX as u64) {
-        Some(port) if port > 0 => Ok(Some(SocketAddr::new(address, port as u16))),
-        _ => refuse(alloc, text, "--status <PORT>", "1 to 65535"),
     }
+    let port = STATUS.port(alloc, options, &RUN)?;
+    Ok(Some(StatusOptions {
+        address: SocketAddr::new(address, port),
+        version: VERSION,
+        has_key: options.get_str(ADMIN_KEY.name).is_some(),
+    }))
 }
 
 /// The address of `--status-interface`.
@@ -91,7 +174,7 @@ fn interface_option(alloc: Global, options: &ArgMatches<'_>) -> Result<IpAddr, E
 }
 
 /// The form of `--log-format`, which asks for a log too; the lines as they are with `--log` alone.
-fn log_option(alloc: Global, options: &ArgMatches<'_>) -> Result<Option<LogForm>, Error> {
+pub fn log_option(alloc: Global, options: &ArgMatches<'_>) -> Result<Option<LogForm>, Error> {
     let Some(text) = options.get_str("log-format") else {
         return Ok(options.get_flag("log").then_some(LogForm::Text));
     };
@@ -107,61 +190,4 @@ fn refuse_form(alloc: Global, text: &str) -> Result<Option<LogForm>, Error> {
         "invalid value '{text}' for '--log-format <FORM>': not text, timed or json"
     )?;
     Err(RUN.error(alloc, ErrorKind::InvalidValue, message.as_str())?)
-}
-
-/// The bytes of `--spool-size`, if it is given.
-fn spool_size_option(alloc: Global, options: &ArgMatches<'_>) -> Result<Option<u64>, Error> {
-    let Some(text) = options.get_str("spool-size") else {
-        return Ok(None);
-    };
-    match whole_number_up_to(text, MOST_SPOOL_BYTES) {
-        Some(size) if size >= LEAST_SPOOL_BYTES => Ok(Some(size)),
-        _ => refuse(
-            alloc,
-            text,
-            "--spool-size <BYTES>",
-            "1048576 to 1152921504606846976",
-        ),
-    }
-}
-
-/// The number of `--senders`.
-fn senders_option(alloc: Global, options: &ArgMatches<'_>) -> Result<Senders, Error> {
-    let text = options.get_str("senders").unwrap_or("1");
-    match senders_in(text) {
-        Some(senders) => Ok(senders),
-        None => refuse(alloc, text, "--senders <N>", "1 to 8"),
-    }
-}
-
-/// The number of `--line-receivers`.
-fn line_receivers_option(alloc: Global, options: &ArgMatches<'_>) -> Result<usize, Error> {
-    let text = options.get_str("line-receivers").unwrap_or("1");
-    match whole_number_up_to(text, MOST_LINE_RECEIVERS as u64) {
-        Some(count) if count > 0 => Ok(count as usize),
-        _ => refuse(alloc, text, "--line-receivers <N>", "1 to 6"),
-    }
-}
-
-/// The seconds of an option, up to `most`.
-fn seconds_option(
-    alloc: Global,
-    options: &ArgMatches<'_>,
-    option: &str,
-    most: u64,
-) -> Result<u64, Error> {
-    let text = options.get_str(option).unwrap_or("0");
-    match whole_number_up_to(text, most) {
-        Some(seconds) => Ok(seconds),
-        None => {
-            let words = format!(in alloc; "--{option} <SECONDS>")?;
-            let range = format!(in alloc; "0 to {most}")?;
-            refuse(alloc, text, words.as_str(), range.as_str())
-        }
-    }
-}
-
-/// The error of an option whose value is out of range.
-fn refuse<T>(alloc: Global, text: &str, option: &str, range: &str) -> Result<T, Error> {
-    Err(RUN.range_error(alloc, text, option, range)?)
 }

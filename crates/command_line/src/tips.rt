@@ -1,7 +1,8 @@
 //! Tips for words that other programs take: what `relayd` has in place of them.
 
 use crate::client_words::{RELOAD, REPORT};
-use crate::commands::{CHECK, PASS, RUN};
+use crate::commands::{CHECK, PASS};
+use crate::run_options::RUN;
 use crate::words::CommandWords;
 use clap::Error;
 use clap::error::ErrorKind;

@@ -1,18 +1,32 @@
 //! What the options of `watch` ask for.
 
 use crate::client_words::WATCH;
+use crate::number_option::NumberOption;
 use crate::options::path_option;
 use crate::output_form::{OutputForm, form_option};
 use clap::{ArgMatches, Error};
-use relay_base::whole_number_up_to;
 use std::alloc::Global;
 
-/// The greatest number of lines, of seconds and of parts of names.
-const MOST_LINES: u64 = 1_000_000;
+const LINES: NumberOption = NumberOption {
+    name: "lines",
+    value: "N",
+    least: 1,
+    most: 1_000_000,
+};
 
-const MOST_SECONDS: u64 = 3_600;
+const SECONDS: NumberOption = NumberOption {
+    name: "seconds",
+    value: "SECONDS",
+    least: 1,
+    most: 3_600,
+};
 
-const MOST_PARTS: u64 = 64;
+const NAMES: NumberOption = NumberOption {
+    name: "names",
+    value: "N",
+    least: 1,
+    most: 64,
+};
 
 /// What `watch` shows, how much of it, for how long, and in which form.
 #[derive(Drop)]
@@ -43,15 +57,9 @@ pub enum WatchWanted {
 
 /// What the options ask for.
 pub(crate) fn watching_of(alloc: Global, options: &ArgMatches<'_>) -> Result<Watching, Error> {
-    let lines = number_option(alloc, options, "lines", "--lines <N>", MOST_LINES)?;
-    let seconds = number_option(
-        alloc,
-        options,
-        "seconds",
-        "--seconds <SECONDS>",
-        MOST_SECONDS,
-    )?;
-    let parts = number_option(alloc, options, "names", "--names <N>", MOST_PARTS)?;
+    let lines = LINES.number_if_given(alloc, options, &WATCH)?;
+    let seconds = SECONDS.number(alloc, options, &WATCH)?;
+    let parts = NAMES.number_if_given(alloc, options, &WATCH)?;
     let wanted = match parts {
         Some(parts) => WatchWanted::Names { parts },
         None => WatchWanted::Datapoints {
@@ -62,27 +70,7 @@ pub(crate) fn watching_of(alloc: Global, options: &ArgMatches<'_>) -> Result<Wat
     Ok(Watching {
         wanted,
         lines,
-        seconds: seconds.unwrap_or(MOST_SECONDS),
+        seconds,
         form: form_option(options),
     })
-}
-
-/// The number of an option, if it is given: 1 to a greatest one.
-fn number_option(
-    alloc: Global,
-    options: &ArgMatches<'_>,
-    name: &str,
-    option: &str,
-    greatest: u64,
-) -> Result<Option<u64>, Error> {
-    let Some(text) = options.get_str(name) else {
-        return Ok(None);
-    };
-    match whole_number_up_to(text, greatest) {
-        Some(number) if number > 0 => Ok(Some(number)),
-        _ => {
-            let range = format!(in alloc; "1 to {greatest}")?;
-            Err(WATCH.range_error(alloc, text, option, range.as_str())?)
-        }
-    }
 }

@@ -97,20 +97,6 @@ impl CommandWords {
         drop(command);
         error
     }
-
-    /// The error of an option whose value is not a number of this range.
-    pub(crate) fn range_error(
-        &self,
-        alloc: Global,
-        text: &str,
-        option: &str,
-        range: &str,
-    ) -> Result<Error, AllocError> {
-        let message = format!(in alloc;
-            "invalid value '{text}' for '{option}': not {range} in decimal digits"
-        )?;
-        self.error(alloc, ErrorKind::InvalidValue, message.as_str())
-    }
 }
 
 fn push_args<'a>(alloc: Global, words: &[Word], args: &mut Vec<Arg<'a>>) -> Result<(), AllocError> {

@@ -4,8 +4,9 @@ use crate::marks::{print_answer, print_text};
 use finished_run::NoRecorder;
 use relay_base::NoMemory;
 use relay_files::{RelayFault, RunConfiguration, Source, Sources, Status};
+use relay_options::RunOptions;
 use relay_run::{
-    FilesAsked, RefusedReload, RelayRuntime, ReloadSource, RunObservers, RunOptions, RunSetup,
+    FilesAsked, RefusedReload, RelayRuntime, ReloadSource, RunObservers, RunSetup,
 };
 use spool::{SpoolFiles, Unopened};
 use std::alloc::Global;
@@ -123,7 +124,7 @@ fn run_until_stopped<R: RelayRuntime>(
     };
     let files = NoFiles;
     let setup = RunSetup {
-        options: RunOptions::new(admin, 1),
+        options: RunOptions::new(admin),
         folder: None,
         files: &files,
     };

@@ -4,13 +4,13 @@ ghost use Rattle.std.specs.Prelude.{◌≡◌, true, IfErr};
 ghost use Rattle.relay_ports.specs.StartFault.{is_start_fault};
 
 use crate::listeners::BoundPort;
-use crate::options::RunOptions;
 use conf_text::Settings;
 use mio::Poll;
 use mio_loops::MOST_CONNECTIONS;
 use receivers::ConnectionRoom;
 use relay_base::{NoMemory, add};
 use relay_files::{ListenRole, RelayFault};
+use relay_options::RunOptions;
 use std::alloc::Global;
 use std::net::Net;
 use std::sync::Arc;
@@ -37,7 +37,7 @@ struct Uses {
 impl Uses {
     fn of(settings: &Settings, options: RunOptions) -> Uses {
         let lines = if settings.line_receiver_port() > 0 {
-            options.line_receivers()
+            options.line_receivers.count()
         } else {
             0
         };
@@ -47,9 +47,9 @@ impl Uses {
         let streams = lines.saturating_add(pickles);
         let receivers = streams.saturating_add(datagrams);
         let threads = receivers
-            .saturating_add(options.senders())
-            .saturating_add(usize::from(options.is_diverting()));
-        let of_dest = if options.is_diverting() {
+            .saturating_add(options.senders.count())
+            .saturating_add(usize::from(options.spool_size.is_some()));
+        let of_dest = if options.spool_size.is_some() {
             DIVERTED + 1
         } else {
             1

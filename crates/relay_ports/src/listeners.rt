@@ -6,7 +6,6 @@ ghost use Rattle.relay_ports.specs.StartFault.{is_start_fault};
 use crate::datagram_room::ask_for_room;
 use crate::descriptors::{room_of, share_room};
 use crate::inlet::Inlet;
-use crate::options::{RunOptions, StatusOptions};
 use crate::said_refusals::SaidRefusals;
 use crate::system_tables::SystemTables;
 use admin_port::AdminListener;
@@ -17,6 +16,7 @@ use mio_loops::ReadinessFault;
 use receivers::StreamPort;
 use relay_base::{MOST_LINE_RECEIVERS, add};
 use relay_files::{ListenRole, RelayFault};
+use relay_options::{RunOptions, StatusOptions};
 use status_server::StatusListener;
 use std::alloc::Global;
 use std::net::{IpAddr, Ipv4Addr, Net, SocketAddr};
@@ -150,8 +150,8 @@ pub fn bind_all<R: Net + SystemTables>(
 ) -> Result<Ports<StatusListener>, RelayFault>
     ensures { IfErr result (λ fault. is_start_fault fault ≡ true) }
 {
-    let bound = bind_receivers(rt, alloc, settings, options.line_receivers())?;
-    let admin = watch_admin(rt, alloc, options.admin())?;
+    let bound = bind_receivers(rt, alloc, settings, options.line_receivers.count())?;
+    let admin = watch_admin(rt, alloc, options.admin)?;
     let mut ports = Ports {
         receivers: Vec::new(alloc),
         first: FirstPorts {
@@ -181,7 +181,7 @@ fn bind_last<R: Net + SystemTables>(
 ) -> Result<(), RelayFault>
     ensures { IfErr result (λ fault. is_start_fault fault ≡ true) }
 {
-    ports.status = bind_status(rt, alloc, options.status())?;
+    ports.status = bind_status(rt, alloc, options.status)?;
     ports.first.kept = clones_of(alloc, bound.as_slice())?;
     let mut bound = bound;
     if let Some(room) = room_of(rt, alloc, settings, options)? {

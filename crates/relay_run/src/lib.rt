@@ -47,9 +47,7 @@ mod thread_jobs;
 mod thread_records;
 
 pub use files_asked::FilesAsked;
-pub use relay_ports::{
-    RunOptions, StatusOptions, SystemTables, descriptors_needed, free_descriptors,
-};
+pub use relay_ports::{SystemTables, descriptors_needed, free_descriptors};
 pub use reload_source::{RefusedReload, ReloadSource};
 pub use run_command::run;
 pub use run_observers::RunObservers;

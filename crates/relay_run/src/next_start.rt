@@ -122,7 +122,7 @@ pub(crate) fn start_after<F>(
     drop(said);
     let mut new_places = new_places;
     new_places.inherit(ended, &places, &mut found);
-    let drain_millis = process.setup.options.drain().saturating_mul(1_000);
+    let drain_millis = process.setup.options.drain.saturating_mul(1_000);
     new_places.add_gone(ended, millis.saturating_add(drain_millis));
     let inherited = inherited_of(alloc, ended, new_places, logged, news);
     let mut shared = shared;

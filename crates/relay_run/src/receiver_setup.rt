@@ -106,7 +106,7 @@ fn noted_inlet<B: Set, R: RelayRuntime>(
     ensures { IfErr result (λ fault. is_start_fault fault ≡ true) }
 {
     let mut inlet = inlet;
-    inlet.set_idle(maker.relay.shape.idle_seconds);
+    inlet.set_idle(maker.relay.shape.options.idle);
     let handed = maker.relay.streams.get(receiver);
     match add_noted(&mut inlet, handed, notes, logs, controls) {
         Ok(()) => Ok(inlet),

@@ -66,7 +66,7 @@ use std::time::Instant;
 /// last line, and writes at most one line of each kind (`log_lines`). What it cannot write is lost, and a write that
 /// fails changes nothing; one that waits holds up the end of the run.
 ///
-/// With [`RunOptions::with_drain`] the receivers end first after `stop`. The senders go on until nothing is queued or
+/// With [`RunOptions::drain`] the receivers end first after `stop`. The senders go on until nothing is queued or
 /// in hand at any destination that is connected, at most for that many seconds. The last lines of the log then say how
 /// many datapoints were not sent.
 ///

@@ -1,7 +1,7 @@
 //! How a program has a relay run.
 
 use crate::spool_folder::SpoolFolder;
-use relay_ports::RunOptions;
+use relay_options::RunOptions;
 
 /// How a program has a relay run: by these options, with this folder for what is not sent, if there is one, and with who reads its
 /// files for a reload.

@@ -7,7 +7,7 @@ use conf_text::Settings;
 use finished_run::RunShape;
 use locked_queues::{MOST_RECEIVERS, MOST_SENDERS};
 use relay_base::{LARGEST_MESSAGE, LARGEST_QUEUE_SIZE, MOST_DESTINATIONS};
-use relay_ports::StatusOptions;
+use relay_options::RunOptions;
 use relay_watchers::WatchedAt;
 
 /// The numbers of receivers and senders, and how they run.
@@ -18,11 +18,8 @@ pub(crate) struct Shape {
     pub(crate) limit: usize,
     pub(crate) receivers: usize,
     pub(crate) senders: usize,
-    pub(crate) line_receivers: usize,
-    pub(crate) drain_seconds: u64,
-    pub(crate) idle_seconds: u64,
-    pub(crate) admin: u16,
-    pub(crate) status: Option<StatusOptions>,
+    /// How they run.
+    pub(crate) options: RunOptions,
     /// Whether the threads return what they logged.
     pub(crate) is_recorded: bool,
     /// Whether what is not sent is kept.
@@ -34,7 +31,7 @@ pub(crate) struct Shape {
 impl Shape {
     /// The version that the status shows; none without a status server.
     pub(crate) fn version(&self) -> &'static str {
-        match self.status {
+        match self.options.status {
             Some(status) => status.version,
             None => "",
         }
@@ -43,8 +40,8 @@ impl Shape {
     /// How datapoints are watched, as the status shows it.
     pub(crate) fn watched_at(&self) -> WatchedAt {
         WatchedAt {
-            admin: self.admin,
-            has_key: match self.status {
+            admin: self.options.admin,
+            has_key: match self.options.status {
                 Some(status) => status.has_key,
                 None => false,
             },
@@ -101,12 +98,8 @@ pub(crate) fn shape_of<F>(settings: &Settings, ports: usize, process: &Process<'
         size: settings.max_queue_size(),
         limit: settings.max_datapoints_per_message(),
         receivers: ports.clamp(1, MOST_RECEIVERS),
-        senders: options.senders(),
-        line_receivers: options.line_receivers(),
-        drain_seconds: options.drain(),
-        idle_seconds: options.idle(),
-        admin: options.admin(),
-        status: options.status(),
+        senders: options.senders.count(),
+        options,
         is_recorded: process.is_recorded,
         is_spooled: process.setup.folder.is_some(),
         spool_size: process.spool_size(),

@@ -48,8 +48,8 @@ impl SharedParts {
         let state = RunState::new(
             alloc,
             shape.dests,
-            shape.line_receivers,
-            shape.drain_seconds,
+            shape.options.line_receivers.count(),
+            shape.options.drain,
             shape.kept_size(),
         )?;
         Ok(SharedParts {

@@ -45,7 +45,7 @@ mod watching_output;
 mod words;
 
 use admin_key::key_at;
-use command_line::{Explain, Invocation, OutputForm, Paths, VERSION};
+use command_line::{Explain, Invocation, OutputForm, Paths};
 use file_limit::{ErrorRoom, LimitedOutput, file_limit, limited_output};
 use files::sources_at;
 use live_route::run_live_route;
@@ -56,7 +56,7 @@ use read_files::ReadsFiles;
 use record_file::recorder_of;
 use relay_commands::{HandedForm, check};
 use relay_files::{RelayFault, Status};
-use relay_run::{RunObservers, RunOptions, RunSetup, StatusOptions, SystemTables};
+use relay_run::{RunObservers, RunSetup, SystemTables};
 use relay_watchers::SystemFacts;
 use reload_files::RelayFiles;
 use replaying::{run_replay, run_replay_lines};
@@ -171,17 +171,18 @@ where
         Invocation::Run {
             paths,
             options,
+            log,
             admin_key,
             record,
             spool,
             explain,
         } => {
-            let own = match own_folder(rt, alloc, spool, options.spool_size) {
+            let own = match own_folder(rt, alloc, spool) {
                 Ok(own) => own,
                 Err(status) => return Ok(status),
             };
             let folder = match &own {
-                Some(own) => Some(own.folder()),
+                Some(own) => Some(own.folder(options.spool_size)),
                 None => None,
             };
             let key = match key_at(rt, alloc, admin_key) {
@@ -199,7 +200,7 @@ where
                 explain::write_start_notes(files, alloc, paths);
             }
             let observers = RunObservers {
-                log: log_output(rt, alloc, *threads, options.log)?,
+                log: log_output(rt, alloc, *threads, *log)?,
                 recorder,
             };
             let ended = relay_run::run(
@@ -207,7 +208,7 @@ where
                 alloc,
                 &mut sources_at(files, alloc, paths)?,
                 RunSetup {
-                    options: relay_options(*options, admin_key.is_some()),
+                    options: *options,
                     folder,
                     files: &started,
                 },
@@ -246,26 +247,6 @@ fn handed_form(shows_text: bool) -> HandedForm {
         HandedForm::DigitsAndText
     } else {
         HandedForm::Digits
-    }
-}
-
-/// How a relay runs, by the words, whose admin port has a key or none.
-fn relay_options(options: command_line::RunOptions, has_key: bool) -> RunOptions {
-    let relay = RunOptions::new(options.admin, options.senders.count())
-        .with_line_receivers(options.line_receivers)
-        .with_drain(options.drain)
-        .with_idle(options.idle);
-    let relay = match options.spool_size {
-        Some(_) => relay.with_diversions(),
-        None => relay,
-    };
-    match options.status {
-        Some(address) => relay.with_status(StatusOptions {
-            address,
-            version: VERSION,
-            has_key,
-        }),
-        None => relay,
     }
 }
 

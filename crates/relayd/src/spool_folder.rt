@@ -29,19 +29,18 @@ pub struct OwnFolder {
     path: String,
     owner: Option<u32>,
     limit: Option<u64>,
-    size: Option<u64>,
     fault: SpoolFault,
     _lock: File,
 }
 
 impl OwnFolder {
-    /// The folder, for a run.
-    pub fn folder(&self) -> SpoolFolder<'_> {
+    /// The folder, for a run that keeps so many bytes in its files while it goes on, if it does.
+    pub fn folder(&self, size: Option<u64>) -> SpoolFolder<'_> {
         SpoolFolder {
             path: self.path.as_str(),
             owner: self.owner,
             limit: self.limit,
-            size: self.size,
+            size,
             fault: &self.fault,
         }
     }
@@ -80,14 +79,13 @@ enum FolderFault {
     NoFile,
 }
 
-/// The folder at a path, if one is given, with the size that its files may have while the relay runs, if there is one. Refuses,
-/// with a line on standard error, one that another relay uses or that takes no files: it makes one, writes to it, waits until
-/// that is on the disk, and removes it. A disk without room is no reason, since the relay can do its work: it says so.
+/// The folder at a path, if one is given. Refuses, with a line on standard error, one that another relay uses or that takes no
+/// files: it makes one, writes to it, waits until that is on the disk, and removes it. A disk without room is no reason, since the
+/// relay can do its work: it says so.
 pub fn own_folder(
     rt: &HostRuntime,
     alloc: Global,
     path: &Option<String>,
-    size: Option<u64>,
 ) -> Result<Option<OwnFolder>, Status> {
     let Some(path) = path else {
         return Ok(None);
@@ -107,7 +105,6 @@ pub fn own_folder(
                 path: own_path,
                 owner,
                 limit: file_limit(rt),
-                size,
                 fault: SpoolFault::none(),
                 _lock: file,
             }))

@@ -2,14 +2,14 @@
 
 use crate::explain::write;
 use crate::open_files::Files;
-use crate::relay_options;
 use crate::reread_files::RereadFile;
-use command_line::{Invocation, Paths, RunOptions};
+use command_line::{Invocation, Paths};
 use conf_text::{Ini, Settings};
 use fault_notes::{SystemNotes, notes_of_script, notes_of_unreadable, open_file_limit};
 use note_text::Notes;
 use relay_base::{NoMemory, add, utf8_text};
 use relay_files::{RelayFault, Role};
+use relay_options::RunOptions;
 use relay_run::{descriptors_needed, free_descriptors};
 use std::alloc::Global;
 use std::io::{IsTerminal, Write};
@@ -191,7 +191,7 @@ fn count_descriptors(
     options: RunOptions,
     notes: &mut SystemNotes,
 ) -> Result<(), NoMemory> {
-    let needed = descriptors_needed(settings, relay_options(options, false));
+    let needed = descriptors_needed(settings, options);
     // The datagrams' port is closed again here, and the admin port has nothing to wait with.
     let open = usize::from(settings.enable_udp_listener() && settings.udp_receiver_port() > 0);
     let most = needed.saturating_add(open).saturating_add(1);
@@ -220,8 +220,12 @@ fn bind_ports(
         settings.pickle_receiver_port(),
     );
     let admin = SocketAddr::from((Ipv4Addr::LOCALHOST, options.admin));
+    let status = match options.status {
+        Some(status) => Some(status.address),
+        None => None,
+    };
     let mut before = Vec::new(alloc);
-    for address in [lines, pickles, Some(admin), options.status] {
+    for address in [lines, pickles, Some(admin), status] {
         let Some(address) = address else {
             continue;
         };

@@ -1,6 +1,6 @@
 //! How many threads send.
 
-ghost use Rattle.std.specs.Prelude.{◌≤◌};
+ghost use Rattle.std.specs.Prelude.{◌≡◌, ◌≤◌};
 
 use queue_records::MOST_SENDERS;
 use relay_base::whole_number_up_to;
@@ -13,6 +13,13 @@ pub struct Senders {
 }
 
 impl Senders {
+    /// One sender.
+    pub(crate) fn one() -> Senders
+        ensures { result.count ≡ 1 }
+    {
+        Senders { count: 1 }
+    }
+
     /// This number of senders, if it is 1 to [`MOST_SENDERS`].
     fn new(count: u64) -> Option<Senders> {
         if count == 0 || count > MOST_SENDERS as u64 {
@@ -25,7 +32,8 @@ impl Senders {
 
     /// How many there are.
     pub fn count(self) -> usize
-        ensures { (1 ≤ result) × (result ≤ MOST_SENDERS) }
+        ensures value { result ≡ self.count }
+        ensures range { (1 ≤ result) × (result ≤ MOST_SENDERS) }
     {
         self.count
     }
