@@ -5,9 +5,7 @@ use finished_run::NoRecorder;
 use relay_base::NoMemory;
 use relay_files::{RelayFault, RunConfiguration, Source, Sources, Status};
 use relay_options::RunOptions;
-use relay_run::{
-    FilesAsked, RefusedReload, RelayRuntime, ReloadSource, RunObservers, RunSetup,
-};
+use relay_run::{FilesAsked, RefusedReload, RelayRuntime, ReloadSource, RunObservers, RunSetup};
 use spool::{SpoolFiles, Unopened};
 use std::alloc::Global;
 use std::io::{Read, Sink, Write};
