@@ -31,6 +31,10 @@ starts-output readiness.NoMemory = refl
 pub fails-at_start : (begins : List ℕ) (held : Option (List ℕ)) (fault : RelayFault) → is_start_fault fault ≡ true → RunFails begins held held fault
 fails-at_start begins held fault is = AtStart is (Keeps-self held)
 
+-- the opening, by another word for whether no run was before
+pub opens-as : (a b : Option (List ℕ)) (is same : Bool) → is ≡ same → Appends a b (opening is) → Appends a b (opening same)
+opens-as a b is same e wrote = subst (λ (is_first : Bool). Appends a b (opening is_first)) e wrote
+
 -- the opening and the closing line, one after the other
 pub writes-both : (begins : List ℕ) (a b c : Option (List ℕ)) (settled : Result Settled SettleFault) → Appends a b begins → Appends b c (closing_line settled) → Appends a c (run_text begins settled)
 writes-both begins a b c settled opened line = Appends-then a b c begins (closing_line settled) opened line

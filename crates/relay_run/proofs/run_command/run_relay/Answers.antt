@@ -1,9 +1,7 @@
-use Rattle.std.proofs.Common.{Bool, sym, subst}
+use Rattle.std.proofs.Common.{sym}
 use Rattle.std.proofs.lemmas.Result.{IfOk-weaker, IfErr-weaker}
-use Rattle.std.specs.Io.KnownBytes.{Appends}
-use Rattle.relay_run.proofs.RunEndings.{err-is, ok-is, on_ok-is, fails-at_start, fails-early, fails-closing, writes-both, stopped-weaker, never-followed}
+use Rattle.relay_run.proofs.RunEndings.{err-is, ok-is, on_ok-is, fails-at_start, fails-early, fails-closing, writes-both, opens-as, stopped-weaker, never-followed}
 use Rattle.relay_run.proofs.run_command.run_relay.Goals as goal
-use Rattle.run_threads.specs.Served.{opening}
 
 -- it could not be opened
 pub returns-in-Err : goal.returns-in-Err
@@ -23,14 +21,14 @@ pub returns-in-Some : goal.returns-in-Some
 returns-in-Some g c =
     record {
       stopped = tt;
-      followed = (rw (sym c.of-port.ensures) (on_ok-is _ _ _ c.in-Ok-left.is c.run_until_ended-left.ensures.ok), c.follow-following.ensures);
+      followed = (opens-as _ _ _ _ c.of-port.ensures (on_ok-is _ _ _ c.in-Ok-left.is c.run_until_ended-left.ensures.ok), c.follow-following.ensures);
       err = tt;
     }
 
 -- it was stopped
 pub returns-in-None : goal.returns-in-None
 returns-in-None g c =
-    let opened = subst (λ (is : Bool). Appends _ _ (opening is)) c.of-port.ensures (on_ok-is _ _ _ c.in-Ok-left.is c.run_until_ended-left.ensures.ok) in
+    let opened = opens-as _ _ _ _ c.of-port.ensures (on_ok-is _ _ _ c.in-Ok-left.is c.run_until_ended-left.ensures.ok) in
     let thread = ok-is _ _ _ c.in-Ok-left.is c.run_until_ended-left.ensures.fault in
     record {
       stopped = IfOk-weaker c.stopped.result _ _ (λ e is. stopped-weaker e _ _ (λ status ends.
