@@ -160,8 +160,10 @@ class Watch(Watches):
             for pattern, found in ((b"^moved", [b"moved.x"]), (b"^both", [b"both.y", b"moved.x"]), (b"\\.x$", [b"moved.x"]),
                                    (b"ONE", []), (b"(?i)OTH|zz z", [b"both.y", b"moved.x", b"other"])):
                 with self.subTest(pattern):
+                    before = relay.totals()["offered"]
                     number = self.opened(relay, b"lines find " + pattern)
                     relay.lines(sent)
+                    self.wait_for(lambda count=before + 5: relay.totals()["offered"] == count, "the relay has read that")
                     lines, _ = self.seen(relay, number, len(found))
                     self.assertEqual([line.split(b"\t")[2] for line in lines], [name + b" 1 2" for name in found])
                     self.ends(relay, number)
