@@ -54,11 +54,11 @@ pub(crate) fn open_files_of<B: Set, R: Wait + Clock + Net, F: ReloadSource>(
 
 /// Something that a reload waits for of the disk.
 trait DiskWait {
-    /// What it ends with.
-    type End;
+    /// What the wait is for.
+    type Answer;
 
-    /// Looks, and returns how it ended, once it has.
-    fn look(&self) -> Option<Self::End>;
+    /// Looks, and returns the answer, once it is there.
+    fn look(&self) -> Option<Self::Answer>;
 }
 
 /// Files are opened for a run.
@@ -68,7 +68,7 @@ struct OpeningWait<'x, F> {
 }
 
 impl<F: ReloadSource> DiskWait for OpeningWait<'_, F> {
-    type End = Result<SpoolFiles, Unopened>;
+    type Answer = Result<SpoolFiles, Unopened>;
 
     fn look(&self) -> Option<Result<SpoolFiles, Unopened>> {
         self.files.opened()
@@ -83,7 +83,7 @@ struct HaltingWait<'x> {
 }
 
 impl DiskWait for HaltingWait<'_> {
-    type End = ();
+    type Answer = ();
 
     fn look(&self) -> Option<()> {
         if self.signals.are_disk_halted(self.users) {
@@ -102,12 +102,12 @@ fn wait_for_disk<B: Set, R: Wait + Clock + Net, F: ReloadSource, W: DiskWait>(
     ports: &mut FirstPorts,
     watched: &mut ReportSource<'_, B, F>,
     wait: &W,
-) -> Result<W::End, NotPrepared> {
+) -> Result<W::Answer, NotPrepared> {
     let times = SystemTimes::since(rt, relay.began);
     let end = times.millis().saturating_add(READING_TIMEOUT_MS);
     for _ in rt.forever() {
-        if let Some(ended) = wait.look() {
-            return Ok(ended);
+        if let Some(answer) = wait.look() {
+            return Ok(answer);
         }
         if take_turn(rt, alloc, relay, ports, watched, READING_PAUSE_MS) {
             return Err(NotPrepared::Stopped);
@@ -183,9 +183,7 @@ pub(crate) fn halt_disk<B: Set, R: Wait + Clock + Net, F: ReloadSource>(
     }
     let stopper = relay.state.stopper();
     stopper.halt_disk(true);
-    relay.gate.wake_all();
-    relay.gone_gate.wake_all();
-    relay.keeper_gate.wake_all();
+    wake_disk_users(relay);
     let wait = HaltingWait {
         signals: relay.state.signals(),
         users,
@@ -193,6 +191,14 @@ pub(crate) fn halt_disk<B: Set, R: Wait + Clock + Net, F: ReloadSource>(
     let halted = wait_for_disk(rt, alloc, relay, ports, watched, &wait);
     if halted.is_err() {
         stopper.halt_disk(false);
+        wake_disk_users(relay);
     }
     halted
+}
+
+/// Ends the waits of the threads that make calls of the disk.
+fn wake_disk_users<B: Set>(relay: &Relay<B>) {
+    relay.gate.wake_all();
+    relay.gone_gate.wake_all();
+    relay.keeper_gate.wake_all();
 }

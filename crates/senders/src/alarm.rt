@@ -11,8 +11,6 @@ pub struct Alarm {
     asleep: AtomicBool,
     // Whether the sender waits, announced or not, and nobody has cut that short.
     waits: AtomicBool,
-    // Whether a wait was ended, and the sender has not gone on yet.
-    is_late: AtomicBool,
 }
 
 impl Alarm {
@@ -26,7 +24,6 @@ impl Alarm {
             waker,
             asleep: AtomicBool::new(false),
             waits: AtomicBool::new(false),
-            is_late: AtomicBool::new(false),
         })
     }
 
@@ -44,12 +41,6 @@ impl Alarm {
     pub(crate) fn clear(&self) {
         self.asleep.store(false, Ordering::SeqCst);
         self.waits.store(false, Ordering::SeqCst);
-        self.is_late.store(false, Ordering::SeqCst);
-    }
-
-    /// Whether the sender's wait was ended, and it has not gone on yet: it waits for a processor.
-    pub(crate) fn is_late(&self) -> bool {
-        self.is_late.load(Ordering::SeqCst)
     }
 
     /// Ends the wait of the sender, if it waits: also one that it has not announced.
@@ -68,7 +59,6 @@ impl Alarm {
 
     /// Ends the wait. If that fails, the wait ends when its time is over.
     fn wake(&self) {
-        self.is_late.store(true, Ordering::SeqCst);
         let _ = self.waker.wake();
     }
 }

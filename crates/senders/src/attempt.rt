@@ -86,14 +86,14 @@ impl Attempt {
         if self.is_closed {
             return Progress::Failed(loss_of(&self.stream));
         }
-        if millis >= self.end_millis {
-            return Progress::Failed(Why::NoAnswer);
-        }
-        if !self.is_ready && millis < self.next_look_millis {
+        // One that was made counts, however late it is seen.
+        let is_over = millis >= self.end_millis;
+        if !self.is_ready && !is_over && millis < self.next_look_millis {
             return Progress::UnderWay(self);
         }
         match is_connected(&self.stream) {
             Ok(true) => Progress::Connected(self.stream),
+            Ok(false) if is_over => Progress::Failed(Why::NoAnswer),
             Ok(false) => Progress::UnderWay(Attempt {
                 next_look_millis: millis.saturating_add(LOOK_AFTER_MS),
                 is_ready: false,

@@ -29,6 +29,7 @@ mod sender_share;
 mod store_connector;
 mod store_end;
 mod store_stream;
+mod take_waits;
 mod turn;
 mod wake_gate;
 mod wire;

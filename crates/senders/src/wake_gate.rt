@@ -1,17 +1,10 @@
 //! The gate that wakes senders.
 
 use crate::alarm::Alarm;
+use crate::take_waits::TakeWaits;
 use locked_queues::{Gate, GatePoint};
 use relay_base::DestId;
 use std::sync::Wait;
-use std::sync::atomic::AtomicU64;
-use std::time::Duration;
-
-/// How often a thread sleeps at most for a sender whose wait was ended and that waits for a processor, and for how many nanoseconds,
-/// to which the system adds about as much. A processor whose thread sleeps takes up one that waits.
-const MOST_NAPS: usize = 20;
-
-const NAP_NS: u64 = 50_000;
 
 /// A gate for the doors and outlets of queues: an offer to a destination ends the wait of its sender, if the
 /// sender is about to wait. Of `n` senders, sender `k` has the destinations `k`, `k + n` and so on.
@@ -21,8 +14,7 @@ const NAP_NS: u64 = 50_000;
 #[derive(Drop)]
 pub struct WakeGate {
     alarms: Vec<Alarm>,
-    // Nobody changes it: a wait for that lasts until its time is over.
-    naps: AtomicU64,
+    waits: TakeWaits,
 }
 
 impl WakeGate {
@@ -30,7 +22,7 @@ impl WakeGate {
     pub fn new(alarms: Vec<Alarm>) -> WakeGate {
         WakeGate {
             alarms,
-            naps: AtomicU64::new(0),
+            waits: TakeWaits::new(),
         }
     }
 
@@ -61,25 +53,25 @@ impl WakeGate {
 
 impl Gate for WakeGate {
     fn at(&self, point: GatePoint) {
-        let GatePoint::InOffer { dest, reader: _ } = point else {
-            return;
-        };
-        if let Some(alarm) = self.alarm_of(dest) {
-            alarm.ring();
+        match point {
+            GatePoint::InOffer { dest, reader: _ } => {
+                if let Some(alarm) = self.alarm_of(dest) {
+                    alarm.ring();
+                }
+            }
+            GatePoint::InTake { dest } => self.waits.note_take(dest),
         }
     }
 
-    /// Ends the wait of the sender, and sleeps until it goes on, once at least: also one that does not wait may lack a processor.
+    /// Ends the wait of the sender, and sleeps until it takes from the queue: it may be waiting for a processor. It does not sleep
+    /// again before the next take, so that a store that is away is waited for once.
     fn give_way<R: Wait>(&self, rt: &R, dest: DestId) {
-        let Some(alarm) = self.alarm_of(dest) else {
+        if self.waits.was_in_vain(dest) {
             return;
-        };
-        alarm.hurry();
-        for _ in 0..MOST_NAPS {
-            self.naps.park_timeout(rt, 0, Duration::from_nanos(NAP_NS));
-            if !alarm.is_late() {
-                break;
-            }
+        }
+        if let Some(alarm) = self.alarm_of(dest) {
+            alarm.hurry();
+            self.waits.wait(rt, dest);
         }
     }
 }

@@ -85,8 +85,11 @@ impl<'x, R: Wait + Clock + Net + SpoolDisk + Copy + Drop> ThreadWork<R, ()> for 
         };
         send_left(rt, alloc, first, gone, &times);
         let mut turns = orders.disk_turns();
-        if waits_for_turn(rt, &mut turns, signals) {
-            spool_all(rt, alloc, gone, limit);
+        for place in 0..gone.dests.len() {
+            if !wait_for_turn(rt, &mut turns, signals) {
+                break;
+            }
+            spool_one(rt, alloc, gone, place, limit);
         }
         turns.end();
         gone.note_sender_over();
@@ -199,7 +202,7 @@ fn end_connections<R: Wait + Clock, N: Connect>(
 }
 
 /// Waits until it may make calls of the disk. Returns whether it may: not if another run follows.
-fn waits_for_turn<R: Wait + Clock>(rt: &R, turns: &mut DiskTurns<'_>, signals: &Signals) -> bool {
+fn wait_for_turn<R: Wait + Clock>(rt: &R, turns: &mut DiskTurns<'_>, signals: &Signals) -> bool {
     for _ in rt.forever() {
         if signals.is_handing() {
             return false;
@@ -212,19 +215,18 @@ fn waits_for_turn<R: Wait + Clock>(rt: &R, turns: &mut DiskTurns<'_>, signals: &
     unreachable!()
 }
 
-/// Writes to files what is left for destinations that are gone, if files keep that, and notes what became of it. The files stay in
-/// the slots: a destination that returns is sent what they hold.
-fn spool_all<R: SpoolDisk + Copy + Drop>(
+/// Writes to a file what is left for a destination that is gone, if files keep that, and notes what became of it. The files stay in
+/// the slot: a destination that returns is sent what they hold.
+fn spool_one<R: SpoolDisk + Copy + Drop>(
     rt: &R,
     alloc: Global,
     gone: &GoneDests,
+    place: usize,
     limit: Option<u64>,
 ) {
-    for place in 0..gone.dests.len() {
-        let SpooledLeft { end, files } = spool_left(*rt, alloc, gone.slots.take(place), limit);
-        gone.slots.leave_files(place, files, None);
-        if !gone.has_ended(place) {
-            gone.note_over(place, end);
-        }
+    let SpooledLeft { end, files } = spool_left(*rt, alloc, gone.slots.take(place), limit);
+    gone.slots.leave_files(place, files, None);
+    if !gone.has_ended(place) {
+        gone.note_over(place, end);
     }
 }

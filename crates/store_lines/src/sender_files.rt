@@ -18,7 +18,7 @@ pub(crate) struct SenderFiles<'n, 's, W, D> {
 }
 
 impl<'n, 's, W: Drop, D: SpoolDisk> SenderFiles<'n, 's, W, D> {
-    /// These files, on this disk, which may be called before the first turn.
+    /// These files, on this disk. Before the first turn it may be called.
     pub(crate) fn new(
         spool: SenderSpool<'n, W>,
         disk: D,
@@ -77,6 +77,7 @@ impl<'n, 's, W: Write + HalfClose + Drop, D: SpoolDisk> CarryOver<W> for SenderF
         self.spool.note_ready(ready);
     }
 
+    // A close that is not noted now shows at the next write.
     fn note_closed(&mut self, place: usize) {
         if self.may_use_disk {
             self.spool.note_closed(&self.disk, place);
