@@ -15,6 +15,7 @@ import time
 from fixtures.harness import LIMIT, Settings
 from fixtures.receiving import Receiving, is_closed
 from fixtures.running import shown
+from fixtures.spooling import ALL
 from fixtures.stores import free_ports
 
 MOST_DATAGRAM = 65_507
@@ -23,6 +24,7 @@ IDLE = 5              # seconds; no connection that is to stay open rests so lon
 DATAGRAMS = 4_000     # with their blank lines more than the buffer that a relay asks for
 BLANK = 4_000         # lines of a datagram beside its datapoint
 NOTING = 2            # seconds
+STEP, STEPS, STEP_S = 200, 300, 0.01  # datagrams together, how often, and how many seconds apart
 MOST_CONNECTIONS = 1_024
 FRAME = 1_048_576     # bytes: the longest
 FRAMES = 60
@@ -147,6 +149,28 @@ class Losses(Receiving):
             self.ends(relay)
             self.assertEqual(relay.store.lines(), [b"last 1 1700000000"])
             self.assertEqual(self.last_of(relay, "udp"), "receiver udp: 2 overlong datagrams")
+
+    def lost_beside_a_store_that_goes(self):
+        """Which part of datagrams another store lacks that come at a steady pace once a store is away."""
+        goes, beside = self.stores(2)
+        dests = [f"127.0.0.1:{store.port}" for store in (goes, beside)]
+        with self.relay(dests, ALL.format(", ".join(dests)), MAX_QUEUE_SIZE="100000") as relay, \
+                socket.socket(socket.AF_INET, socket.SOCK_DGRAM) as sender:
+            relay.datagram(b"first 1 1\n")
+            self.wait_for(lambda: goes.lines() and beside.lines(), "both stores are connected")
+            goes.stop()
+            began = time.monotonic()
+            for number in range(STEPS):
+                for _ in range(STEP):
+                    sender.sendto(b"d 1 1\n", ("127.0.0.1", relay.udp))
+                time.sleep(max(began + (number + 1) * STEP_S - time.monotonic(), 0))
+            relay.lines(b"last 1 1\n")
+            self.wait_for(lambda: b"last 1 1" in beside.lines()[-1_000:], "the last line has come")
+            return 1 - (len(beside.lines()) - 2) / (STEP * STEPS)
+
+    def test_datagrams_beside_a_store_that_goes(self):
+        """A receiver does not wait before each piece for a store that is away."""
+        self.gets_below(0.05, self.lost_beside_a_store_that_goes)
 
     def test_datagrams_that_the_system_drops(self):
         """Each that was sent is either read or counted."""

@@ -7,7 +7,7 @@ use std::time::Duration;
 
 /// How often a receiver sleeps at most for a take, and for how many nanoseconds, to which the system adds about as much. While it
 /// sleeps, its processor runs a thread that waits for one.
-const MOST_NAPS: usize = 20;
+const MOST_NAPS: usize = 60;
 
 const NAP_NS: u64 = 50_000;
 
