@@ -8,6 +8,7 @@ mod flow_parts;
 mod flows;
 mod full_logs;
 mod gates;
+mod giving_way;
 mod handed_over;
 mod histories;
 mod holds;

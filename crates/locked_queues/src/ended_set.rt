@@ -203,7 +203,7 @@ impl<B: Set> LockedQueue<B> {
         let LockedQueue {
             dest: _,
             queue,
-            keeps_up: _,
+            patience: _,
             offered,
             dropped,
             taken,

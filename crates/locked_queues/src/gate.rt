@@ -27,8 +27,9 @@ pub trait Gate {
     fn at(&self, point: GatePoint);
 
     /// Is called under no lock, before offers to a destination whose queue is at least a quarter full, not full, although its
-    /// last take had left nothing: its sender may only wait for a processor.
-    fn give_way<R: Wait>(&self, rt: &R, dest: DestId);
+    /// sender keeps up: it may only wait for a processor. Waits for the next take, for `most` naps of some 0.1 milliseconds at most,
+    /// and returns how many it took; `most` if it can wait for none.
+    fn give_way<R: Wait>(&self, rt: &R, dest: DestId, most: usize) -> usize;
 }
 
 /// A gate that does nothing.
@@ -38,5 +39,7 @@ pub struct OpenGate;
 impl Gate for OpenGate {
     fn at(&self, _point: GatePoint) {}
 
-    fn give_way<R: Wait>(&self, _rt: &R, _dest: DestId) {}
+    fn give_way<R: Wait>(&self, _rt: &R, _dest: DestId, most: usize) -> usize {
+        most
+    }
 }

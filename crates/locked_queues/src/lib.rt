@@ -13,6 +13,7 @@ mod locked;
 mod locked_door;
 mod opening;
 mod outlet;
+mod patience;
 mod queues;
 mod seats;
 mod settle;

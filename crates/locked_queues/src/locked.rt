@@ -10,6 +10,7 @@ ghost use Rattle.dest_queue.specs.Offer.{last_count};
 ghost use Rattle.locked_queues.specs.Shares.{offered_place, dropped_place, taken_place, table_words};
 ghost use Rattle.queue_records.specs.Takes.{after_take};
 
+use crate::patience::Patience;
 use crate::shares::{Common, Set, Shares, Total};
 use dest_queue::{Counts, DestQueue, Hand, Kept, OfferFault};
 use line_text::Point;
@@ -22,8 +23,7 @@ use std::sync::Arc;
 pub struct LockedQueue<B: Set> {
     pub(crate) dest: usize,
     pub(crate) queue: DestQueue,
-    // Whether the last take left nothing.
-    pub(crate) keeps_up: bool,
+    pub(crate) patience: Patience,
     pub(crate) offered: Total<B>,
     pub(crate) dropped: Total<B>,
     pub(crate) taken: Total<B>,
@@ -101,13 +101,19 @@ impl<B: Set> LockedQueue<B> {
         let _counts = self.queue.counts();
         let taken = book.take_under(&mut self.queue, DestId(self.dest), limit, hand);
         self.taken.add(common, shares, taken as u64);
-        self.keeps_up = taken < limit;
+        if taken < limit {
+            self.patience.renew();
+        }
         taken
     }
 
-    /// Whether the queue fills, although its last take had left nothing.
-    pub(crate) fn fills_at_once(&self) -> bool {
-        self.keeps_up && self.queue.is_filling()
+    /// How long a receiver may wait for takes before it offers: not at all where the queue is not filling.
+    pub(crate) fn patience(&self) -> Patience {
+        if self.queue.is_filling() {
+            self.patience
+        } else {
+            Patience::none()
+        }
     }
 
     /// What the queue has counted. Its history replays to these counts, and the shares add up to them.

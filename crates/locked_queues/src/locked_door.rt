@@ -122,18 +122,21 @@ impl<'d, B: Set, R: Wait, G: Gate> LockedDoor<'d, B, R, G> {
         self.lock(dest)
     }
 
-    /// The lock of a destination's queue, where none was held. Before it takes the lock of a queue that fills at once, it gives
-    /// way: offers that follow each other begin so, and those after 64 under one lock.
+    /// The lock of a destination's queue, where none was held. Before it takes the lock of a queue that fills although its sender
+    /// keeps up, it gives way: offers that follow each other begin so, and those after 64 under one lock.
     fn first_lock(&self, dest: DestId) -> HeldLock<'d, B>
         requires dest { dest.0 < length self.now.made.totals }
     {
         let held = self.lock(dest);
-        if !held.locked.fills_at_once() {
+        let patience = held.locked.patience();
+        if patience.naps() == 0 {
             return held;
         }
         drop(held);
-        self.gate.give_way(self.rt, dest);
-        self.lock(dest)
+        let naps = self.gate.give_way(self.rt, dest, patience.naps());
+        let mut held = self.lock(dest);
+        held.locked.patience.spend(patience, naps);
+        held
     }
 
     /// The lock of a destination's queue.

@@ -6,6 +6,7 @@ ghost use Rattle.queue_records.specs.Offers.{readers_each};
 ghost use Rattle.locked_queues.specs.Shares.{keeper_of, table_words};
 
 use crate::locked::LockedQueue;
+use crate::patience::Patience;
 use crate::seats::{DoorSeat, OutletSeat};
 use crate::shares::{Common, FIRST_PLACE, LastPlace, Set, Shares, Total, View, WORDS};
 use atomic_table::Seat;
@@ -71,7 +72,7 @@ fn make_lock<B: Set>(
     let locked = LockedQueue {
         dest,
         queue,
-        keeps_up: false,
+        patience: Patience::none(),
         offered,
         dropped,
         taken,

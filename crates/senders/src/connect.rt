@@ -1,7 +1,8 @@
 //! What connects to destinations.
+
 ghost use Rattle.std.specs.Prelude.{◌≡◌, IfErr};
 
-use crate::kept_socket::KeptSocket;
+use mio::net::TcpStream;
 use mio_loops::{LeftWriter, ReadinessFault};
 use relay_base::DestId;
 use std::io::Write;
@@ -56,4 +57,13 @@ pub trait Connect {
     /// Whether no peer may still send something, which would take back what it has not read if its connection were
     /// closed now.
     fn is_quiet(&self) -> bool;
+}
+
+/// The connection to a store that goes on in another sender: its socket, how many bytes of a begun line it has taken, and
+/// whether it is half-closed.
+#[derive(Drop)]
+pub struct KeptSocket {
+    pub(crate) socket: TcpStream,
+    pub(crate) begun: usize,
+    pub(crate) is_half_closed: bool,
 }

@@ -1,5 +1,5 @@
 //! Which line is the last of its connection.
-ghost use Rattle.std.specs.Prelude.{◌≤◌, length};
+ghost use Rattle.std.specs.Prelude.{◌≡◌, ◌≤◌, length, take};
 
 use line_text::LONGEST_LINE;
 use memchr::{memchr, memrchr};
@@ -16,23 +16,31 @@ pub(crate) struct ConnectionLines {
 
 impl ConnectionLines {
     /// The connection has taken nothing.
-    pub(crate) fn new() -> ConnectionLines {
+    pub(crate) fn new() -> ConnectionLines
+        ensures { result.begun ≡ 0 }
+    {
         ConnectionLines { begun: 0 }
     }
 
     /// The connection has taken this many bytes of a line that goes on.
-    pub(crate) fn within(begun: usize) -> ConnectionLines {
+    pub(crate) fn within(begun: usize) -> ConnectionLines
+        ensures { result.begun ≡ begun }
+    {
         ConnectionLines { begun }
     }
 
     /// How many bytes of a begun line the connection has taken.
-    pub(crate) fn begun(&self) -> usize {
+    pub(crate) fn begun(&self) -> usize
+        ensures { result ≡ self.now.begun }
+    {
         self.begun
     }
 
     /// Those of the next bytes that may be written: all, or those up to the end of the first line that is longer.
     pub(crate) fn writable<'b>(&self, bytes: &'b [u8]) -> &'b [u8]
-        ensures { length result.now ≤ length bytes.now }
+        ensures few { length result.now ≤ length bytes.now }
+        // They are the first ones.
+        ensures first { result.now ≡ take (length result.now) bytes.now }
     {
         match self.long_line_end(bytes) {
             Some(end) => first(bytes, end),
@@ -84,7 +92,8 @@ impl ConnectionLines {
 
 /// The first `count` bytes, or all if there are fewer.
 fn first(bytes: &[u8], count: usize) -> &[u8]
-    ensures { length result.now ≤ length bytes.now }
+    ensures few { length result.now ≤ length bytes.now }
+    ensures first { result.now ≡ take (length result.now) bytes.now }
 {
     let (first, _) = bytes.split_at(bytes.len().min(count));
     first

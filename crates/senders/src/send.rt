@@ -1,13 +1,12 @@
 //! The work of a sender until it is stopped.
+
 ghost use Rattle.std.specs.Prelude.{◌≡◌, ◌≤◌, IfSome};
 ghost use Rattle.queue_records.specs.Takes.{IsHandedBy};
 ghost use Rattle.senders.specs.Steps.{AllUpOwned, SomeProgress};
 ghost use Rattle.senders.specs.Record.{SenderEnds, EndsFor, AreNone};
 
-use crate::batch_sender::BatchSender;
 use crate::connect::Connect;
 use crate::counted_supply::CountedSupply;
-use crate::sender_record::SenderRecord;
 use crate::turn::take_turn;
 use mio_loops::{LeftTaker, LeftWriter, ReadinessFault, StopFlag, TimeSource, WriteLog, WriteLoop};
 use queue_records::{MOST_DESTS, Supply};
@@ -132,4 +131,32 @@ fn no_logs(alloc: Global, dests: usize) -> Vec<WriteLog>
         }
     }
     logs
+}
+
+/// A sender of batches, before it begins.
+#[derive(Drop)]
+pub struct BatchSender<N, S> {
+    /// What connects to the destinations.
+    pub connector: N,
+    /// How many destinations there are, also those of other senders.
+    pub dests: usize,
+    /// The greatest number of datapoints in a batch.
+    pub limit: usize,
+    /// What the batches are taken from.
+    pub supply: S,
+}
+
+/// What a sender returns when it ends.
+///
+/// A log that could not be made is empty and sealed; if not even the list of logs could be made, the list is
+/// empty.
+#[derive(Drop)]
+pub struct SenderRecord<S> {
+    /// The supply that the sender was given.
+    pub outlet: S,
+    /// What the writers did, by destination.
+    pub logs: Vec<WriteLog>,
+    /// Why the sender ended before it was stopped: `Device` if a wait for readiness failed,
+    /// `NoMemory` if there was no memory for the loop. `None` if it was stopped.
+    pub fault: Option<ReadinessFault>,
 }

@@ -1,9 +1,8 @@
 //! Connects to the stores that destinations name, by the system's sockets.
 
 use crate::alarm::Alarm;
-use crate::connect::Connect;
+use crate::connect::{Connect, KeptSocket};
 use crate::host_lookup::{HostLookup, HostThreads};
-use crate::kept_socket::KeptSocket;
 use crate::link::{Link, LinkTry};
 use crate::lookup::Lookup;
 use crate::resolve::Resolve;

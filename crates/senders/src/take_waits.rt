@@ -5,20 +5,15 @@ use std::sync::Wait;
 use std::sync::atomic::{AtomicU64, Ordering};
 use std::time::Duration;
 
-/// How often a receiver sleeps at most for a take, and for how many nanoseconds, to which the system adds about as much. While it
-/// sleeps, its processor runs a thread that waits for one.
-const MOST_NAPS: usize = 60;
-
+/// For how many nanoseconds a receiver sleeps at a time, to which the system adds about as much. While it sleeps, its processor
+/// runs a thread that waits for one.
 const NAP_NS: u64 = 50_000;
 
-/// The destinations whose takes receivers wait for, a bit each. Nobody waits twice for a destination of which nothing is taken
-/// meanwhile: its store is away, or takes no more.
+/// The destinations whose takes receivers wait for, a bit each.
 #[derive(Drop)]
 pub(crate) struct TakeWaits {
     // Those of which something was taken since a receiver began to wait for that.
     taken: AtomicU64,
-    // Those for which a receiver has waited in vain, and of which nothing was taken since.
-    in_vain: AtomicU64,
     // Never changes: a wait for a change of it lasts its whole time.
     naps: AtomicU64,
 }
@@ -28,7 +23,6 @@ impl TakeWaits {
     pub(crate) fn new() -> TakeWaits {
         TakeWaits {
             taken: AtomicU64::new(0),
-            in_vain: AtomicU64::new(0),
             naps: AtomicU64::new(0),
         }
     }
@@ -39,27 +33,24 @@ impl TakeWaits {
         if self.taken.load(Ordering::SeqCst) & bit == 0 {
             let _before = self.taken.fetch_or(bit, Ordering::SeqCst);
         }
-        if self.in_vain.load(Ordering::SeqCst) & bit != 0 {
-            let _before = self.in_vain.fetch_and(!bit, Ordering::SeqCst);
-        }
     }
 
-    /// Whether a wait for a destination was in vain, and nothing was taken since.
-    pub(crate) fn was_in_vain(&self, dest: DestId) -> bool {
-        self.in_vain.load(Ordering::SeqCst) & bit_of(dest) != 0
+    /// A receiver is about to wait for a take of a destination.
+    pub(crate) fn begin(&self, dest: DestId) {
+        let _before = self.taken.fetch_and(!bit_of(dest), Ordering::SeqCst);
     }
 
-    /// Sleeps until something is taken of a destination, for some milliseconds at most.
-    pub(crate) fn wait<R: Wait>(&self, rt: &R, dest: DestId) {
+    /// Sleeps until something is taken of a destination since a receiver began to wait for that, for `most` naps at most, and
+    /// returns how many it took.
+    pub(crate) fn wait<R: Wait>(&self, rt: &R, dest: DestId, most: usize) -> usize {
         let bit = bit_of(dest);
-        let _before = self.taken.fetch_and(!bit, Ordering::SeqCst);
-        for _ in 0..MOST_NAPS {
-            self.naps.park_timeout(rt, 0, Duration::from_nanos(NAP_NS));
+        for nap in 0..most {
             if self.taken.load(Ordering::SeqCst) & bit != 0 {
-                return;
+                return nap;
             }
+            self.naps.park_timeout(rt, 0, Duration::from_nanos(NAP_NS));
         }
-        let _before = self.in_vain.fetch_or(bit, Ordering::SeqCst);
+        most
     }
 }
 

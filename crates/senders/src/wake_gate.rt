@@ -63,15 +63,14 @@ impl Gate for WakeGate {
         }
     }
 
-    /// Ends the wait of the sender, and sleeps until it takes from the queue: it may be waiting for a processor. It does not sleep
-    /// again before the next take, so that a store that is away is waited for once.
-    fn give_way<R: Wait>(&self, rt: &R, dest: DestId) {
-        if self.waits.was_in_vain(dest) {
-            return;
-        }
-        if let Some(alarm) = self.alarm_of(dest) {
-            alarm.hurry();
-            self.waits.wait(rt, dest);
-        }
+    /// Ends the wait of the sender, and sleeps until it takes from the queue: it may be waiting for a processor.
+    fn give_way<R: Wait>(&self, rt: &R, dest: DestId, most: usize) -> usize {
+        let Some(alarm) = self.alarm_of(dest) else {
+            return most;
+        };
+        // First it notes that it waits: the sender may take at once.
+        self.waits.begin(dest);
+        alarm.hurry();
+        self.waits.wait(rt, dest, most)
     }
 }

@@ -54,7 +54,9 @@ impl Gate for Holds {
         }
     }
 
-    fn give_way<R: Wait>(&self, _rt: &R, _dest: DestId) {}
+    fn give_way<R: Wait>(&self, _rt: &R, _dest: DestId, most: usize) -> usize {
+        most
+    }
 }
 
 /// Waits for a flag, but not for ever.
