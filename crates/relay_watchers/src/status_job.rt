@@ -299,14 +299,11 @@ impl<B: Set, R: Wait + SystemFacts> StatusView<'_, '_, B, R> {
 
 impl<B: Set, R: Wait + SystemFacts> StatusTexts for StatusView<'_, '_, B, R> {
     fn push_text(&self, page: Page, text: &mut String) -> Result<(), AllocError> {
-        if matches!(page, Page::Health) {
-            return text.push_str(if self.is_ending() { "ending\n" } else { "up\n" });
-        }
-        let now = self.snapshot()?;
         match page {
-            Page::Html => push_page(text, &now),
-            Page::Json => push_json(text, &now),
-            Page::Metrics | Page::Health => push_metrics(text, &now),
+            Page::Health => text.push_str(if self.is_ending() { "ending\n" } else { "up\n" }),
+            Page::Html => push_page(text, &self.snapshot()?),
+            Page::Json => push_json(text, &self.snapshot()?),
+            Page::Metrics => push_metrics(text, &self.snapshot()?),
         }
     }
 

@@ -1,5 +1,8 @@
 //! The parts of a run, and why they have no script.
 
+ghost use Rattle.std.specs.Prelude.{◌≡◌};
+ghost use Rattle.run_record.specs.declared.parts.RunScriptFault.TheVariants.{NoMemory as OutOfMemory};
+
 use dest_queue::{Counts, Step};
 use reader_core::ReaderKind;
 use relay_base::NoMemory;
@@ -38,6 +41,8 @@ pub enum RunScriptFault {
 }
 
 impl<E: Into<NoMemory> + Drop> From<E> for RunScriptFault {
+    ghost from_gives = { λ _ fault. fault ≡ OutOfMemory };
+
     fn from(_error: E) -> RunScriptFault {
         RunScriptFault::NoMemory
     }

@@ -1,8 +1,8 @@
 //! The record of a run: its replay script.
 
-ghost use Rattle.std.specs.Prelude.{◌≡◌, ◌≤◌, length, IfOk, Ok};
+ghost use Rattle.std.specs.Prelude.{◌≡◌, ◌≤◌, length, IfOk, IfErr, Ok, Err};
 ghost use Rattle.std.specs.String.{string_bytes};
-ghost use Rattle.run_record.specs.Recorded.{IsRecordOfRun};
+ghost use Rattle.run_record.specs.Recorded.{IsRecordOfRun, settle_fault};
 
 use crate::history::is_order_of;
 use crate::parts::RunParts;
@@ -24,7 +24,8 @@ pub fn record_run(alloc: Global, run: &FinishedRun<'_>) -> Result<String, Record
         ≡ run.now.shape.dests }
     requires size { (1 ≤ run.now.shape.size) × (run.now.shape.size ≤ LARGEST_QUEUE_SIZE) }
     requires limit { (1 ≤ run.now.shape.limit) × (run.now.shape.limit ≤ LARGEST_MESSAGE) }
-    ensures { IfOk result (λ script. IsRecordOfRun run.now (string_bytes script)) }
+    ensures made { IfOk result (λ script. IsRecordOfRun run.now (string_bytes script)) }
+    ensures unsettled { IfErr run.now.settled.now (λ fault. result ≡ Err (settle_fault fault)) }
 {
     let settled = match run.settled {
         Ok(settled) => settled,
@@ -37,7 +38,9 @@ pub fn record_run(alloc: Global, run: &FinishedRun<'_>) -> Result<String, Record
 }
 
 /// Why a run that has not settled has no record.
-fn fault_of(fault: &SettleFault) -> RecordFault {
+fn fault_of(fault: &SettleFault) -> RecordFault
+    ensures { result ≡ settle_fault fault.now }
+{
     match fault {
         SettleFault::Sealed { dest, .. } => RecordFault::History { dest: dest.0 },
         SettleFault::NoMemory => RecordFault::NoMemory,

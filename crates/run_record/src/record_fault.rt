@@ -1,5 +1,9 @@
 //! Why a run has no record.
 
+ghost use Rattle.std.specs.Prelude.{◌≡◌};
+ghost use Rattle.run_record.specs.Recorded.{script_fault};
+ghost use Rattle.run_record.specs.declared.record_fault.RecordFault.TheVariants.{NoMemory as OutOfMemory};
+
 use crate::parts::RunScriptFault;
 use relay_base::NoMemory;
 use thiserror::Error;
@@ -40,6 +44,8 @@ pub enum RecordFault {
 }
 
 impl From<RunScriptFault> for RecordFault {
+    ghost from_gives = { λ fault own. own ≡ script_fault fault };
+
     fn from(fault: RunScriptFault) -> RecordFault {
         match fault {
             RunScriptFault::EmptyDatagram => RecordFault::EmptyDatagram,
@@ -50,6 +56,8 @@ impl From<RunScriptFault> for RecordFault {
 }
 
 impl From<NoMemory> for RecordFault {
+    ghost from_gives = { λ _ fault. fault ≡ OutOfMemory };
+
     fn from(_fault: NoMemory) -> RecordFault {
         RecordFault::NoMemory
     }

@@ -1,2 +1,4 @@
+pub mod DestSources
+pub mod DiskUsers
 pub mod Drain
 pub mod Unsent

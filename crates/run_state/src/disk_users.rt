@@ -1,6 +1,16 @@
-//! The threads that make calls of the disk while a run goes on, and when they make none.
+//! The threads that use the disk while a run goes on, and when they do not.
+
+ghost use Rattle.std.specs.Prelude.{◌≡◌, ◌==◌, not};
+ghost use Rattle.std.specs.Int.Bits.{bit_or};
+ghost use Rattle.run_state.specs.DiskUsers.{bit_of_user};
 
 use crate::signals::{Signals, bit};
+
+/// The bit of the sender to destinations that are gone, behind those of the senders.
+const PARTING_BIT: u64 = 256;
+
+/// The bit of the keeper of the files.
+const KEEPER_BIT: u64 = 512;
 
 /// A thread that reads and writes the files of a run.
 #[derive(Clone, Copy)]
@@ -15,11 +25,13 @@ pub enum DiskUser {
 
 impl DiskUser {
     /// Its bit.
-    pub(crate) fn bit(self) -> u64 {
+    pub(crate) fn bit(self) -> u64
+        ensures { result ≡ bit_of_user self }
+    {
         match self {
             DiskUser::Sender(number) => bit(number),
-            DiskUser::Parting => 256,
-            DiskUser::Keeper => 512,
+            DiskUser::Parting => PARTING_BIT,
+            DiskUser::Keeper => KEEPER_BIT,
         }
     }
 }
@@ -32,24 +44,30 @@ pub struct DiskUsers {
 
 impl DiskUsers {
     /// None of them.
-    pub fn none() -> DiskUsers {
+    pub fn none() -> DiskUsers
+        ensures { result.bits ≡ 0 }
+    {
         DiskUsers { bits: 0 }
     }
 
     /// These and this one.
-    pub fn with(self, user: DiskUser) -> DiskUsers {
+    pub fn with(self, user: DiskUser) -> DiskUsers
+        ensures { result.bits ≡ bit_or self.bits (bit_of_user user) }
+    {
         DiskUsers {
             bits: self.bits | user.bit(),
         }
     }
 
     /// Whether there is none.
-    pub fn are_none(self) -> bool {
+    pub fn are_none(self) -> bool
+        ensures { result ≡ (self.bits == 0) }
+    {
         self.bits == 0
     }
 }
 
-/// The turns of a thread that makes calls of the disk. Before a run ends that another one follows, such threads make none, so that
+/// The turns of a thread that uses the disk. Before a run ends that another one follows, such threads do not use it, so that
 /// nobody waits for the disk when they end.
 #[derive(Drop)]
 pub struct DiskTurns<'s> {
@@ -68,22 +86,25 @@ impl<'s> DiskTurns<'s> {
         }
     }
 
-    /// Begins a turn. Returns whether the thread may make calls of the disk until the next one begins.
-    pub fn begin(&mut self) -> bool {
+    /// Begins a turn. Returns whether the thread may use the disk until the next one begins.
+    pub fn begin(&mut self) -> bool
+        ensures may { result ≡ not self.new.is_halted }
+        ensures user { self.new.user ≡ self.old.user }
+    {
         // First it says that it goes on, and then it looks: who halts it sees that, or it sees that it is to halt.
         if self.is_halted {
-            self.signals.note_disk_halted(self.user, false);
+            self.signals.note_disk_use_halted(self.user, false);
         }
-        self.is_halted = self.signals.is_disk_to_halt();
+        self.is_halted = self.signals.is_disk_use_to_halt();
         if self.is_halted {
-            self.signals.note_disk_halted(self.user, true);
+            self.signals.note_disk_use_halted(self.user, true);
         }
         !self.is_halted
     }
 
-    /// The thread makes no more calls of the disk.
+    /// The thread uses the disk no more.
     pub fn end(&mut self) {
         self.is_halted = true;
-        self.signals.note_disk_halted(self.user, true);
+        self.signals.note_disk_use_halted(self.user, true);
     }
 }

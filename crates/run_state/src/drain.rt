@@ -1,7 +1,8 @@
-//! For whom a drain waits.
+//! For whom a drain waits, and when files have what was not sent.
 
-ghost use Rattle.std.specs.Prelude.{◌≡◌, ◌≢◌, ℕ, ◌+◌, ◌*◌, ◌-◌, ◌^◌, ◌≤◌, ◌<◌, min, true, false, length, replicate};
+ghost use Rattle.std.specs.Prelude.{◌≡◌, ◌≢◌, ℕ, ◌+◌, ◌*◌, ◌-◌, ◌^◌, ◌≤◌, ◌<◌, ◌==◌, min, true, false, length, replicate, if◌then◌else◌};
 ghost use Rattle.run_state.specs.Drain.{IsLook, IsWaitedFor, IsNotWaitedFor, nothing_seen, seen_of};
+ghost use Rattle.run_state.specs.declared.drain.Waits.{Waits};
 
 use crate::signals::Signals;
 use crate::unsent::Unsent;
@@ -14,6 +15,9 @@ const LONGEST_PAUSE_MS: u64 = 1_000;
 
 /// How many milliseconds pass at least between two looks by which a destination's rate is known.
 const RATE_TIME_MS: u64 = 1_000;
+
+/// How many milliseconds may pass in which no file takes anything.
+const LONGEST_FILE_PAUSE_MS: u64 = 10_000;
 
 /// A drain: until when it lasts at most, and what each destination has taken since it began.
 ///
@@ -92,6 +96,12 @@ impl Drain {
             × (place < min (length unsent.now.noted.dests.now) MOST_DESTINATIONS)
             × IsWaitedFor millis self.old.end self.old.has_files
             (seen_of self.old.progress place) (seen_of self.new.progress place) }
+        // It looks at each destination, and at nothing else.
+        ensures each { (place : ℕ) → place < min (length unsent.now.noted.dests.now) MOST_DESTINATIONS
+            → (waits : Waits) × IsLook millis self.old.end self.old.has_files
+            (seen_of self.old.progress place) (seen_of self.new.progress place) waits }
+        ensures others { (place : ℕ) → min (length unsent.now.noted.dests.now) MOST_DESTINATIONS ≤ place
+            → seen_of self.new.progress place ≡ seen_of self.old.progress place }
         ensures end { self.new.end ≡ self.old.end }
         ensures files { self.new.has_files ≡ self.old.has_files }
     {
@@ -225,5 +235,60 @@ impl DrainProgress {
         let taken = self.before.left.saturating_sub(left);
         let time_left = end.saturating_sub(millis);
         passed >= RATE_TIME_MS && left.saturating_mul(passed) > taken.saturating_mul(time_left)
+    }
+}
+
+/// The first thread waits while the senders write to files what they have not sent: until nothing is left, or for as long as
+/// something happens.
+#[derive(Drop)]
+pub struct SpoolWait {
+    // How many bytes the files had taken at a look, and at which milliseconds that had last grown.
+    bytes: u64,
+    grown_at: u64,
+}
+
+impl SpoolWait {
+    /// The files begin at these milliseconds.
+    pub fn new(millis: u64) -> SpoolWait {
+        SpoolWait {
+            bytes: 0,
+            grown_at: millis,
+        }
+    }
+
+    /// Looks at each destination at these milliseconds. Returns whether the wait is over: the files have all that is left,
+    /// as far as they can be written, or none took anything for [`LONGEST_FILE_PAUSE_MS`].
+    pub fn look<B: Set, R: Wait>(&mut self, rt: &R, unsent: &Unsent<'_, B>, millis: u64) -> bool
+        ensures goes_on { result ≡ false → millis - self.new.grown_at < 10000 }
+        ensures grown { self.new.grown_at
+            ≡ (if self.new.bytes == self.old.bytes then self.old.grown_at else millis) }
+    {
+        let mut bytes: u64 = 0;
+        let mut is_over = true;
+        for place in 0..unsent.dests() {
+            if let Some(notes) = unsent.spool_notes_at(place) {
+                bytes = bytes.saturating_add(notes.bytes());
+                is_over = is_over && is_done(rt, unsent, place);
+            }
+        }
+        if bytes != self.bytes {
+            self.bytes = bytes;
+            self.grown_at = millis;
+        }
+        is_over || millis.saturating_sub(self.grown_at) >= LONGEST_FILE_PAUSE_MS
+    }
+}
+
+/// Whether the file of a destination, which exists, has all that is left for it, or takes no more. One that has nothing left, and
+/// no earlier file, needs no new one.
+fn is_done<B: Set, R: Wait>(rt: &R, unsent: &Unsent<'_, B>, place: usize) -> bool
+    requires place { place < B.dests }
+{
+    match unsent.spool_notes_at(place) {
+        Some(notes) if notes.failure().is_some() => true,
+        Some(notes) => {
+            (notes.is_spooling() || !notes.is_behind()) && unsent.left_at(rt, place) == 0
+        }
+        None => true,
     }
 }

@@ -6,9 +6,10 @@ use std::sync::atomic::{AtomicU64, Ordering};
 /// file. The destination's sender notes it; other threads read it at the same time.
 #[derive(Drop)]
 pub struct RestNotes {
-    // Those that wait behind the hand, and those in hand.
+    // Those that no connection has taken whole, in one word, so that none is missed as it is taken in hand; and those of them
+    // that wait behind the hand.
+    left: AtomicU64,
     queued: AtomicU64,
-    in_hand: AtomicU64,
     // Those that the file has, and those that it lost in this run.
     in_file: AtomicU64,
     lost: AtomicU64,
@@ -18,8 +19,8 @@ impl RestNotes {
     /// Nothing is left in memory, and the file has so many.
     pub fn new(in_file: u64) -> RestNotes {
         RestNotes {
+            left: AtomicU64::new(0),
             queued: AtomicU64::new(0),
-            in_hand: AtomicU64::new(0),
             in_file: AtomicU64::new(in_file),
             lost: AtomicU64::new(0),
         }
@@ -43,8 +44,9 @@ impl RestNotes {
 
     /// From now on so many wait, and so many are in hand.
     pub fn note(&self, queued: usize, in_hand: usize) {
+        let left = (queued as u64).saturating_add(in_hand as u64);
+        self.left.store(left, Ordering::SeqCst);
         self.queued.store(queued as u64, Ordering::SeqCst);
-        self.in_hand.store(in_hand as u64, Ordering::SeqCst);
     }
 
     /// How many wait to be taken in hand.
@@ -54,7 +56,6 @@ impl RestNotes {
 
     /// How many no connection has taken whole.
     pub fn left(&self) -> u64 {
-        self.queued()
-            .saturating_add(self.in_hand.load(Ordering::SeqCst))
+        self.left.load(Ordering::SeqCst)
     }
 }

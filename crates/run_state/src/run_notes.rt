@@ -1,5 +1,7 @@
 //! What is noted over all runs of a process.
 
+ghost use Rattle.std.specs.Prelude.{◌≡◌, []};
+
 use crate::rest_notes::RestNotes;
 use dest_queue::EarlierCounts;
 use log_lines::{DestNotes, ReceiverNotes};
@@ -23,7 +25,12 @@ pub struct RunNotes {
 
 impl RunNotes {
     /// There is no receiver, and no destination. It takes no memory.
-    pub fn none(alloc: Global) -> RunNotes {
+    pub fn none(alloc: Global) -> RunNotes
+        ensures receivers { result.receivers.items ≡ [] }
+        ensures dests { result.dests.items ≡ [] }
+        ensures earlier { result.earlier.items ≡ [] }
+        ensures rests { result.rests.items ≡ [] }
+    {
         RunNotes {
             receivers: Vec::new(alloc),
             dests: Vec::new(alloc),

@@ -1,13 +1,13 @@
 //! What the threads of a run share beside the queues.
 
-ghost use Rattle.std.specs.Prelude.{◌≡◌};
+ghost use Rattle.std.specs.Prelude.{◌≡◌, ◌≤◌, ◌<◌, length, slice_get, IfSome, option_copied};
+ghost use Rattle.run_state.specs.DestSources.{IsCountOfRuns};
 
 use crate::counters::counters;
-use crate::end_state::EndState;
 use crate::rest_notes::RestNotes;
 use crate::run_notes::RunNotes;
-use crate::signals::Signals;
-use crate::stopper::Stopper;
+use crate::signals::{Signals, Stopper};
+use crate::unsent::EndState;
 use conf_text::Dest;
 use dest_queue::{Counts, EarlierCounts};
 use log_lines::{DestNotes, ReceiverNotes};
@@ -45,7 +45,11 @@ pub struct DestSources<'x> {
 impl<'x> DestSources<'x> {
     /// What the queues of a destination have counted in all runs, with what that of this run has. What of it went to a file is
     /// queued until that is sent; what was lost with a file is dropped, and no longer kept.
-    pub fn counts_at(&self, place: usize, counts: Counts) -> Counts {
+    pub fn counts_at(&self, place: usize, counts: Counts) -> Counts
+        ensures beyond { length self.now.earlier.now ≤ place → result ≡ counts }
+        ensures counts { place < length self.now.rests.now → IfSome (slice_get self.now.earlier.now place)
+            (λ earlier. IsCountOfRuns earlier counts result) }
+    {
         let (Some(earlier), Some(rest)) = (self.earlier.get(place), self.rests.get(place)) else {
             return counts;
         };
@@ -54,9 +58,11 @@ impl<'x> DestSources<'x> {
         } else {
             0
         };
+        // Read once, so that what is no longer kept is dropped.
+        let lost = rest.lost();
         let earlier = EarlierCounts {
-            kept: earlier.kept.saturating_sub(rest.lost()),
-            dropped: earlier.dropped.saturating_add(rest.lost()),
+            kept: earlier.kept.saturating_sub(lost),
+            dropped: earlier.dropped.saturating_add(lost),
             ..*earlier
         };
         earlier.with_rest(rest.queued().saturating_add(in_file), counts)
@@ -120,14 +126,18 @@ impl RunState {
     }
 
     /// The state with these notes.
-    pub fn with_notes(self, notes: RunNotes) -> RunState {
+    pub fn with_notes(self, notes: RunNotes) -> RunState
+        ensures { result ≡ record self { notes = notes } }
+    {
         let mut state = self;
         state.notes = notes;
         state
     }
 
     /// The notes, for the next run.
-    pub fn into_notes(self) -> RunNotes {
+    pub fn into_notes(self) -> RunNotes
+        ensures { result ≡ self.notes }
+    {
         let RunState {
             signals: _,
             notes,
@@ -177,7 +187,11 @@ impl RunState {
 
     /// These destinations, with their events.
     pub fn noted<'x>(&'x self, dests: &'x [Dest]) -> DestSources<'x>
-        ensures { result.dests.now ≡ dests.now }
+        ensures dests { result.dests.now ≡ dests.now }
+        ensures notes { result.notes.now ≡ self.now.notes.dests.items }
+        ensures earlier { result.earlier.now ≡ self.now.notes.earlier.items }
+        ensures rests { result.rests.now ≡ self.now.notes.rests.items }
+        ensures end { option_copied result.end ≡ self.now.end }
     {
         DestSources {
             dests,

@@ -1,9 +1,10 @@
-//! Signals between the threads of a relay and the first one.
+//! Signals between the threads of a relay and the first one, and who gives them.
 
 ghost use Rattle.std.specs.Prelude.{◌≡◌, ◌^◌, nat_lt, if◌then◌else◌};
 
 use crate::disk_users::{DiskUser, DiskUsers};
 use mio_loops::{ReadinessFault, StopFlag};
+use relay_base::DestId;
 use std::rt::Clock;
 use std::sync::Wait;
 use std::sync::atomic::{AtomicBool, AtomicU64, AtomicUsize, Ordering};
@@ -12,29 +13,31 @@ use std::time::Duration;
 /// The milliseconds between two looks at the threads that begin.
 const PAUSE_MS: u64 = 1;
 
-/// Signals between the threads of a relay and the first one: that the receivers, the senders and at last those
-/// that watch both are to stop, and which receivers and senders have begun; and for whom a drain did not wait. Who has only these
-/// stops nobody: [`Stopper`] does.
-///
-/// [`Stopper`]: crate::Stopper
+/// Signals between the threads of a relay and the first one: that the receivers, the senders and at last the watching threads are
+/// to stop, which receivers and senders have begun, and for whom a drain did not wait. Who has only these stops nobody: [`Stopper`]
+/// does.
 #[derive(Drop)]
 pub struct Signals {
-    pub(crate) receivers: AtomicBool,
+    receivers: AtomicBool,
+    // The receiver of datagrams is to stop, after those of connections.
+    datagrams: AtomicBool,
     // The connections of the senders are files from now on.
-    pub(crate) spooling: AtomicBool,
-    pub(crate) senders: AtomicBool,
+    spooling: AtomicBool,
+    // The destinations whose connections are files before that, a bit each.
+    spooled: AtomicU64,
+    senders: AtomicBool,
     // The keeper of the files is to stop.
-    pub(crate) keeper: AtomicBool,
-    // Nobody is to make a call of the disk, and who makes none: a bit each.
-    pub(crate) halting: AtomicBool,
+    keeper: AtomicBool,
+    // Nobody is to use the disk, and who does not: a bit each.
+    halting: AtomicBool,
     halted: AtomicU64,
-    pub(crate) watchers: AtomicBool,
+    watchers: AtomicBool,
     // The status server is to stop.
-    pub(crate) status: AtomicBool,
+    status: AtomicBool,
     // What the threads hold goes on in another run.
-    pub(crate) handing: AtomicBool,
+    handing: AtomicBool,
     // How many of these stops were told: a thread that sleeps wakes when that changes.
-    pub(crate) stops: AtomicU64,
+    stops: AtomicU64,
     // The destinations that a drain gave up, a bit each.
     stuck: AtomicU64,
     slow: AtomicU64,
@@ -49,7 +52,9 @@ impl Signals {
     pub fn new() -> Signals {
         Signals {
             receivers: AtomicBool::new(false),
+            datagrams: AtomicBool::new(false),
             spooling: AtomicBool::new(false),
+            spooled: AtomicU64::new(0),
             senders: AtomicBool::new(false),
             keeper: AtomicBool::new(false),
             halting: AtomicBool::new(false),
@@ -73,6 +78,13 @@ impl Signals {
         }
     }
 
+    /// Whether the receiver of datagrams is to stop: after those of connections, since what comes to its shut port is lost.
+    pub fn datagrams(&self) -> StopSign<'_> {
+        StopSign {
+            flag: &self.datagrams,
+        }
+    }
+
     /// Whether the senders are to stop. Then they close their connections.
     pub fn senders(&self) -> StopSign<'_> {
         StopSign {
@@ -86,8 +98,17 @@ impl Signals {
     }
 
     /// Whether the senders write to files what they have not sent.
-    pub fn is_spooling(&self) -> bool {
+    fn is_spooling(&self) -> bool {
         self.spooling.load(Ordering::SeqCst)
+    }
+
+    /// Whether the sender of a destination writes to a file what it has not sent.
+    pub fn is_spooled(&self, dest: DestId) -> bool {
+        if self.is_spooling() {
+            return true;
+        }
+        let spooled = self.spooled.load(Ordering::SeqCst);
+        spooled != 0 && spooled & bit_of(dest) != 0
     }
 
     /// Whether the keeper of the files is to stop.
@@ -95,13 +116,13 @@ impl Signals {
         self.keeper.load(Ordering::SeqCst)
     }
 
-    /// Whether nobody is to make a call of the disk.
-    pub(crate) fn is_disk_to_halt(&self) -> bool {
+    /// Whether nobody is to use the disk.
+    pub(crate) fn is_disk_use_to_halt(&self) -> bool {
         self.halting.load(Ordering::SeqCst)
     }
 
-    /// A thread makes no call of the disk, and none is under way, or it goes on.
-    pub(crate) fn note_disk_halted(&self, user: DiskUser, is_halted: bool) {
+    /// A thread does not use the disk, or it goes on.
+    pub(crate) fn note_disk_use_halted(&self, user: DiskUser, is_halted: bool) {
         let bit = user.bit();
         let _before = if is_halted {
             self.halted.fetch_or(bit, Ordering::SeqCst)
@@ -110,8 +131,8 @@ impl Signals {
         };
     }
 
-    /// Whether these threads make no call of the disk.
-    pub fn are_disk_halted(&self, users: DiskUsers) -> bool {
+    /// Whether none of these threads uses the disk.
+    pub fn has_disk_use_halted(&self, users: DiskUsers) -> bool {
         self.halted.load(Ordering::SeqCst) & users.bits == users.bits
     }
 
@@ -215,23 +236,6 @@ impl StopFlag for StopSign<'_> {
     }
 }
 
-/// The bit of a receiver or a sender, of which there are 8 at most; 0 for another number.
-pub fn bit(number: usize) -> u64
-    ensures { result ≡ (if nat_lt number 8 then 2 ^ number else 0) }
-{
-    match number {
-        0 => 1,
-        1 => 2,
-        2 => 4,
-        3 => 8,
-        4 => 16,
-        5 => 32,
-        6 => 64,
-        7 => 128,
-        _ => 0,
-    }
-}
-
 /// Where a receiver or a sender notes that it has begun: it has all the memory that it needs to begin when it first
 /// waits or connects.
 #[derive(Drop)]
@@ -261,4 +265,106 @@ impl<'s> BeginNote<'s> {
             let _before = self.signals.begun.fetch_add(1, Ordering::SeqCst);
         }
     }
+}
+
+/// Tells the threads of a run to stop. The first thread alone has it, so that no receiver or sender stops another one.
+#[derive(Clone, Copy)]
+pub struct Stopper<'s> {
+    signals: &'s Signals,
+}
+
+impl<'s> Stopper<'s> {
+    /// Tells those that read these signals.
+    pub(crate) fn of(signals: &'s Signals) -> Stopper<'s> {
+        Stopper { signals }
+    }
+
+    /// The signals that the threads read.
+    pub fn signals(self) -> &'s Signals {
+        self.signals
+    }
+
+    /// From now on what the threads hold goes on in the next run: nothing is closed, and nothing ends but this run.
+    pub fn begin_handing(self) {
+        self.signals.handing.store(true, Ordering::SeqCst);
+    }
+
+    /// Tells the receivers to stop.
+    pub fn stop_receivers(self) {
+        self.tell(&self.signals.receivers);
+    }
+
+    /// Tells the receiver of datagrams to stop.
+    pub fn stop_datagrams(self) {
+        self.signals.datagrams.store(true, Ordering::SeqCst);
+    }
+
+    /// Tells the senders to write to files what they have not sent to these destinations, a bit each: before any receiver stops, so
+    /// that the ports are shut for a shorter time.
+    pub fn spool_to(self, dests: u64) {
+        let _before = self.signals.spooled.fetch_or(dests, Ordering::SeqCst);
+    }
+
+    /// Tells the senders to write to files what they have not sent.
+    pub fn begin_spooling(self) {
+        self.signals.spooling.store(true, Ordering::SeqCst);
+    }
+
+    /// Tells the senders to stop.
+    pub fn stop_senders(self) {
+        self.tell(&self.signals.senders);
+    }
+
+    /// Has no thread use the disk before the run ends, or has them go on as before.
+    pub fn halt_disk_use(self, is_to_halt: bool) {
+        self.signals.halting.store(is_to_halt, Ordering::SeqCst);
+    }
+
+    /// Tells the keeper of the files to stop: the senders have ended.
+    pub fn stop_keeper(self) {
+        self.signals.keeper.store(true, Ordering::SeqCst);
+    }
+
+    /// Tells the status server to stop, before the others: another run follows, and nothing is to wait for it meanwhile.
+    pub fn stop_status(self) {
+        self.tell(&self.signals.status);
+    }
+
+    /// Tells the watching threads to stop.
+    pub fn stop_watchers(self) {
+        self.tell(&self.signals.watchers);
+    }
+
+    /// Sets a stop flag, and wakes the threads that sleep until a stop.
+    fn tell(self, flag: &AtomicBool) {
+        flag.store(true, Ordering::SeqCst);
+        let _before = self.signals.stops.fetch_add(1, Ordering::SeqCst);
+        self.signals.stops.wake_all();
+    }
+}
+
+/// The bit of a receiver or a sender, of which there are 8 at most; 0 for another number.
+pub fn bit(number: usize) -> u64
+    ensures { result ≡ (if nat_lt number 8 then 2 ^ number else 0) }
+{
+    match number {
+        0 => 1,
+        1 => 2,
+        2 => 4,
+        3 => 8,
+        4 => 16,
+        5 => 32,
+        6 => 64,
+        7 => 128,
+        _ => 0,
+    }
+}
+
+/// The bit of a destination, of which there are 64 at most; 0 for another one.
+fn bit_of(dest: DestId) -> u64 {
+    let mut bit: u64 = 1;
+    for _ in 0..dest.0 {
+        bit = bit.wrapping_mul(2);
+    }
+    bit
 }

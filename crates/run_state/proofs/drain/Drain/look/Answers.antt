@@ -25,6 +25,10 @@ loop-place-preserved g c =
       end = c.look_at.ensures.end ∙ c.loop-place.invariant.end;
       files = c.look_at.ensures.files ∙ c.loop-place.invariant.files;
       others = λ place behind. c.look_at.ensures.others place (λ same. omega (arith, behind, same)) ∙ c.loop-place.invariant.others place (omega (arith, behind));
+      each = λ place passed. elim (eqb_tells place here) [
+        | inl same ↦ subst (λ p. (waits : Waits) × IsLook c.args.millis first.end first.has_files (seen_of first.progress p) (seen_of after.progress p) waits) (sym same.1) (c.look_at.result, look_here)
+        | inr other ↦ subst (λ a. (waits : Waits) × IsLook c.args.millis first.end first.has_files (seen_of first.progress place) a waits) (sym (c.look_at.ensures.others place other.1)) (c.loop-place.invariant.each place (omega (arith, passed, other.1)))
+      ];
       over = λ over place passed.
           let was : c.loop-place.is_over ≡ true = elim c.match-look_at.branch [
             | in-Yes w ↦ grind (arith, w.is_over-is, over)
@@ -55,3 +59,9 @@ returns-then-is_over-clause-not_before g c = λ over _ place inside.
     let of_dests = subst (λ dests. place < min dests 64) (sym c.dests.ensures.dests) inside in
     let of_end = subst (λ end. place < end) (sym c.min-place-end.ensures) of_dests in
     c.loop-place.invariant.over over place (omega (arith, of_end, c.loop-place-test.false))
+
+pub returns-then-is_over-clause-each : goal.returns-then-is_over-clause-each
+returns-then-is_over-clause-each g c = λ place inside.
+    let of_dests = subst (λ dests. place < min dests 64) (sym c.dests.ensures.dests) inside in
+    let of_end = subst (λ end. place < end) (sym c.min-place-end.ensures) of_dests in
+    c.loop-place.invariant.each place (omega (arith, of_end, c.loop-place-test.false))
