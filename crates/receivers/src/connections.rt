@@ -1,6 +1,6 @@
 //! What a listener and its connections share.
 
-use crate::control::ReceiverControl;
+use crate::closing::ReceiverControl;
 use crate::idle_times::IdleTimes;
 use crate::progress::Progress;
 use log_lines::{LossNotes, LossReason};

@@ -1,8 +1,9 @@
 //! A datagram socket of the network.
+
 ghost use Rattle.std.specs.Io.{ReadsAtMost};
 
 use crate::bad_input::{LastInput, Lines, wrong_with};
-use crate::control::{ReceiverControl, shared_control};
+use crate::closing::{ReceiverControl, shared_control};
 use crate::datagram_loop::MOST_DATAGRAM;
 use crate::datagrams::Datagrams;
 use crate::input_counts::ServedInput;

@@ -1,10 +1,11 @@
 //! A connection of a listener of the network.
+
 ghost use Rattle.std.specs.Prelude.{◌≡◌, ◌++◌, IfOk, IfSome};
 ghost use Rattle.std.specs.Io.{ReadsAtMost};
 
 use crate::connection_room::Place;
 use crate::connections::Connections;
-use crate::handed_stream::HandedStream;
+use crate::handing::HandedStream;
 use crate::long_words::LongWords;
 use crate::progress::Progress;
 use handover::FirstBytes;

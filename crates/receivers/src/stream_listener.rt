@@ -1,14 +1,15 @@
 //! A listener of the network.
+
 ghost use Rattle.std.specs.Prelude.{◌≡◌, [], ◌∷◌, ◌++◌, IfErr};
 ghost use Rattle.receivers.specs.Accepted.{IfTaken};
-ghost use Rattle.receivers.specs.declared.handed_stream.HandedStream.{HandedStream};
+ghost use Rattle.receivers.specs.declared.handing.HandedStream.{HandedStream};
 
 use crate::accept::{Accept, AcceptOutcome};
 use crate::bad_input::{LastInput, wrong_with};
+use crate::closing::{ReceiverControl, shared_control};
 use crate::connection_room::{ConnectionRoom, Place, place_in};
 use crate::connections::Connections;
-use crate::control::{ReceiverControl, shared_control};
-use crate::handed_stream::{HandedStream, HandedStreams};
+use crate::handing::{HandedStream, HandedStreams};
 use crate::held_stream::HeldStream;
 use crate::input_counts::ServedInput;
 use crate::optional_notes::OptionalNotes;

@@ -1,14 +1,15 @@
-//! A listener of a port.
+//! A listener of a port, which several receivers may share, and its connections.
 
 ghost use Rattle.std.specs.Prelude.{◌≡◌, IfErr};
 
-use crate::port_stream::PortStream;
-use crate::share::Share;
 use live_watch::{PieceHead, PieceStart, ReceiverName, Tap};
-use mio_loops::{ReadTotals, ReadinessFault, Token};
+use mio_loops::{MOST_CONNECTIONS, ReadTotals, ReadinessFault, Token};
 use reader_core::ReaderCounts;
-use receivers::{Accept, AcceptOutcome, ServedInput, StreamListener};
+use receivers::{Accept, AcceptOutcome, HeldStream, ServedInput, StreamListener};
 use run_state::BeginNote;
+use std::io;
+use std::io::Read;
+use std::sync::atomic::{AtomicU64, Ordering};
 
 /// The longest time that a receiver leaves a connection to the others, in milliseconds, while it holds more than one of them.
 const HOLD_MS: u64 = 2;
@@ -144,4 +145,130 @@ impl<'s> Accept for PortListener<'s> {
 
     // `signals` notes the end of a receiver, where its thread ends.
     fn note_fault(&mut self, _fault: ReadinessFault) {}
+}
+
+/// The number of connections that each of the receivers holds that share a listener, and which of them this one is.
+#[derive(Clone, Copy)]
+pub struct Share<'s> {
+    /// The numbers of all.
+    pub held: &'s [AtomicU64],
+    /// The place of this one.
+    pub own: usize,
+}
+
+impl<'s> Share<'s> {
+    /// A listener that is not shared.
+    pub(crate) fn none() -> Share<'s> {
+        Share { held: &[], own: 0 }
+    }
+
+    /// Whether this receiver holds more connections than another one.
+    fn is_ahead(&self) -> bool {
+        let Some(own) = self.held.get(self.own) else {
+            return false;
+        };
+        let own = own.load(Ordering::SeqCst);
+        self.held
+            .iter()
+            .any(|other| other.load(Ordering::SeqCst) < own)
+    }
+
+    /// Whether some receiver has room for a connection.
+    fn has_room(&self) -> bool {
+        self.held.iter().any(|held| held.load(Ordering::SeqCst) < MOST_CONNECTIONS as u64)
+    }
+
+    /// It holds one more.
+    fn note_held(&self) {
+        if let Some(own) = self.held.get(self.own) {
+            let _before = own.fetch_add(1, Ordering::SeqCst);
+        }
+    }
+
+    /// It holds one less.
+    fn note_left(&self) {
+        if let Some(own) = self.held.get(self.own) {
+            let _before = own.fetch_sub(1, Ordering::SeqCst);
+        }
+    }
+}
+
+/// A connection at a port. Its receiver holds one less once it is dropped. Its pieces are noted for a watch, if there is one.
+pub(crate) struct PortStream<'s> {
+    stream: HeldStream,
+    share: Share<'s>,
+    tap: &'s Tap<'s>,
+    head: PieceHead,
+    // The number of the watch for which its last piece was noted; 0 if it was not.
+    noted: u64,
+}
+
+impl<'s> PortStream<'s> {
+    /// A connection that the receiver of this share has taken, with what is known of each of its pieces.
+    fn new(
+        stream: HeldStream,
+        share: Share<'s>,
+        tap: &'s Tap<'s>,
+        head: PieceHead,
+    ) -> PortStream<'s> {
+        PortStream {
+            stream,
+            share,
+            tap,
+            head,
+            noted: 0,
+        }
+    }
+
+    /// The connection alone, which the receiver of the share holds no longer.
+    fn into_stream(self) -> HeldStream {
+        let PortStream {
+            stream,
+            share,
+            tap: _,
+            head: _,
+            noted: _,
+        } = self;
+        share.note_left();
+        stream
+    }
+
+    /// Notes a piece for the watch of a number, before which the connection lacked so many bytes.
+    fn note(&mut self, watch: u64, lacks: usize, piece: &[u8]) {
+        let start = if lacks == 0 {
+            PieceStart::Fresh
+        } else if self.noted == watch {
+            PieceStart::Follows
+        } else {
+            PieceStart::Within { lacks }
+        };
+        let head = PieceHead { start, ..self.head };
+        let is_noted = self.tap.note_piece(watch, head, piece);
+        self.noted = if is_noted { watch } else { 0 };
+    }
+}
+
+impl Read for PortStream<'_> {
+    fn read(&mut self, buf: &mut [u8]) -> io::Result<usize> {
+        let lacks = self.stream.lacks();
+        let count = self.stream.read(buf)?;
+        let watch = self.tap.watch();
+        if watch != 0 && count > 0 {
+            self.note(watch, lacks, &buf[..count]);
+        }
+        Ok(count)
+    }
+}
+
+impl Drop for PortStream<'_> {
+    fn drop(self) {
+        let PortStream {
+            stream: _stream,
+            share,
+            tap: _,
+            head: _,
+            noted: _,
+        } = self;
+        share.note_left();
+    }
 }

@@ -1,21 +1,25 @@
 //! What receives at a port.
 
-ghost use Rattle.std.specs.Prelude.{◌≡◌, ◌≤◌, ◌<◌, length};
+ghost use Rattle.std.specs.Prelude.{◌≡◌, ◌≤◌, ◌<◌, length, IfErr};
 ghost use Rattle.receivers.specs.Record.{EndsFor};
+ghost use Rattle.std.specs.Io.{ReadsAtMost};
 
 use crate::inlet::Inlet;
-use crate::port_datagrams::PortDatagrams;
-use crate::port_listener::{PortListener, PortNotes};
-use crate::share::Share;
-use live_watch::{NotesOffers, PieceOffers, ReceiverName, Tap, WatchPlace, WatchedDoor};
-use mio_loops::{StopFlag, SystemTimes, TimeSource};
+use crate::port_listener::{PortListener, PortNotes, Share};
+use live_watch::{
+    NotesOffers, PieceHead, PieceOffers, PieceStart, ReceiverName, Tap, WatchPlace, WatchedDoor,
+};
+use mio_loops::{ReadTotals, ReadinessFault, StopFlag, SystemTimes, TimeSource};
 use queue_records::Door;
+use reader_core::ReaderCounts;
 use receivers::{
-    DatagramSocket, ReceiverRecord, StreamListener, receive_datagrams, receive_streams,
+    DatagramSocket, Datagrams, ReceiverRecord, ServedInput, StreamListener, receive_datagrams,
+    receive_streams,
 };
 use router::Plan;
-use run_state::{BeginNote, EndOrders, Signals};
+use run_state::{BeginNote, Signals};
 use std::alloc::Global;
+use std::io;
 use std::rt::Clock;
 use std::sync::Wait;
 use std::time::Instant;
@@ -29,8 +33,6 @@ pub struct PortReceiver<'d> {
     pub number: usize,
     /// How the receivers of lines share their port.
     pub share: Share<'d>,
-    /// They say when a receiver of datagrams stops.
-    pub orders: &'d EndOrders,
     /// Where it hands over what it notes for a watch.
     pub watch: &'d WatchPlace,
     /// Since when the milliseconds of a run count.
@@ -55,7 +57,6 @@ impl PortReceiver<'_> {
             inlet,
             number,
             share,
-            orders,
             watch,
             began,
         } = self;
@@ -70,6 +71,7 @@ impl PortReceiver<'_> {
         };
         let door = WatchedDoor::new(door, PieceOffers::of(&tap));
         let stop = signals.receivers();
+        let datagrams_stop = signals.datagrams();
         let left = match inlet {
             Inlet::Lines(source, _) | Inlet::Pickles(source) => {
                 let inflow = Inflow {
@@ -87,7 +89,7 @@ impl PortReceiver<'_> {
                     number,
                     notes,
                 };
-                receive_noted(rt, inflow, plan, door, &times, orders.datagrams())
+                receive_noted(rt, inflow, plan, door, &times, &datagrams_stop)
             }
         };
         without_watch(left)
@@ -176,4 +178,66 @@ fn without_watch<N: Drop, D: Door>(left: ReceiverRecord<WatchedDoor<N, D>>) -> R
         log,
         fault,
     }
+}
+
+/// The datagrams of a port, which are noted for a watch, if there is one. Their first wait is noted.
+#[derive(Drop)]
+struct PortDatagrams<'s> {
+    socket: DatagramSocket,
+    notes: PortNotes<'s>,
+}
+
+impl<'s> PortDatagrams<'s> {
+    /// The datagrams of a socket, of a receiver of which this is known.
+    fn new(socket: DatagramSocket, notes: PortNotes<'s>) -> PortDatagrams<'s> {
+        PortDatagrams { socket, notes }
+    }
+
+    /// Notes a datagram for the watch of a number.
+    fn note(&self, watch: u64, datagram: &[u8]) {
+        let head = PieceHead {
+            receiver: self.notes.name,
+            producer: self.socket.sender(),
+            connection: 0,
+            start: PieceStart::Fresh,
+        };
+        let _is_noted = self.notes.tap.note_piece(watch, head, datagram);
+    }
+}
+
+impl Datagrams for PortDatagrams<'_> {
+    fn wait(&mut self, millis: u64) -> Result<(), ReadinessFault>
+        ensures device { IfErr result (λ fault. fault ≡ ReadinessFault.Device) }
+    {
+        self.notes.begin.note_wait();
+        self.notes.tap.hand_over();
+        self.socket.wait(millis)
+    }
+
+    fn receive(&mut self, buffer: &mut [u8]) -> io::Result<usize>
+        ensures bound { ReadsAtMost result buffer.new }
+    {
+        let count = self.socket.receive(buffer)?;
+        let watch = self.notes.tap.watch();
+        if watch != 0 {
+            self.note(watch, &buffer[..count]);
+        }
+        Ok(count)
+    }
+
+    fn note_totals(&mut self, totals: ReadTotals, emptied: u64) {
+        self.notes.tap.hand_over();
+        self.socket.note_totals(totals, emptied);
+    }
+
+    fn note_served(&mut self, served: ServedInput) {
+        self.socket.note_served(served);
+    }
+
+    fn note_bad(&mut self, before: ReaderCounts, now: ReaderCounts, datagram: &[u8]) {
+        self.socket.note_bad(before, now, datagram);
+    }
+
+    // `signals` notes the end of a receiver, where its thread ends.
+    fn note_fault(&mut self, _fault: ReadinessFault) {}
 }

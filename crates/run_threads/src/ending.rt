@@ -1,24 +1,53 @@
-//! How a run ends once the first thread has served: the receivers, of datagrams last, then the senders, then the keeper of
-//! files, at last those that watch.
+//! What the first thread does while the others run, and how a run ends once it has served: the receivers, of datagrams last, then
+//! the senders, then the keeper of files, at last the watching threads.
 //!
-//! If another run follows, nothing is closed: what the threads hold goes on there. What may take long, the files of destinations
-//! that are gone, is waited for while receivers and senders go on.
+//! If another run follows, nothing is closed: what the threads hold goes on there. After a reload no thread uses the disk any more.
+//! Only after a fault may the sender to destinations that are gone be writing a file: receivers and senders go on until it has.
 
 ghost use Rattle.std.specs.Prelude.{◌≡◌, ◌⊎◌, Err, if◌then◌else◌};
 
-use crate::first_work::FirstWork;
-use crate::thread_end::ThreadEnd;
 use crate::threads::StartedThreads;
 use finished_run::FedLog;
 use locked_queues::{DoorRecord, OutletRecord};
-use mio_loops::WriteLog;
+use mio_loops::{ReadinessFault, WriteLog};
 use receivers::{ReceiverControl, wake_receivers};
 use relay_files::RelayFault;
-use run_state::{RunEnd, Stopper};
+use run_state::Stopper;
 use std::alloc::Global;
 use std::rt::Clock;
 use std::sync::{Arc, Wait};
 use std::thread::{JoinHandle, Threads};
+
+/// How a run ends.
+#[derive(Clone, Copy)]
+pub enum RunEnd {
+    /// The relay stops: its receivers close, and what is queued is sent, or files keep it.
+    Stop,
+    /// What the threads hold goes on elsewhere, and nothing is closed: another run follows, or this one cannot begin, and
+    /// what ended runs left to it is kept.
+    HandOver,
+    /// The first run has failed: nothing is waited for.
+    Fail,
+}
+
+impl RunEnd {
+    /// Whether what the threads hold goes on elsewhere.
+    pub fn hands_over(self) -> bool {
+        matches!(self, RunEnd::HandOver)
+    }
+}
+
+/// How a receiver or a sender ended: what its door or its outlet recorded, what it logged if the run is recorded, and its
+/// fault, if any.
+#[derive(Drop)]
+pub struct ThreadEnd<T, L> {
+    /// What its door or its outlet recorded.
+    pub record: T,
+    /// What it logged, if the run is recorded.
+    pub log: Option<L>,
+    /// Its fault, if it had one.
+    pub fault: Option<ReadinessFault>,
+}
 
 /// How the threads ended, the receivers and the senders in order, with the records of unused seats, and whether the run went on
 /// until it was to end.
@@ -34,8 +63,8 @@ pub struct ThreadEnds {
     pub served: Result<(), RelayFault>,
 }
 
-/// Ends the threads, once the first has served in this way: the receivers, then the senders, and at last those that watch
-/// them. What they left is kept, or memory ran out.
+/// Ends the threads, once the first has served in this way: the receivers, then the senders, and at last the watching
+/// threads. What they left is kept, or memory ran out.
 pub(crate) fn end_threads<
     R: Threads + Wait + Clock,
     O: Send + Drop,
@@ -68,17 +97,10 @@ pub(crate) fn end_threads<
     match end {
         RunEnd::Stop => work.close_receivers(rt, alloc, controls.as_slice()),
         // No port is shut: its receiver ends with the others.
-        RunEnd::HandOver => work.stop_datagrams(),
+        RunEnd::HandOver => stopper.stop_datagrams(),
         RunEnd::Fail => {}
     }
-    let (receivers, are_kept) = end_receivers(
-        rt,
-        alloc,
-        stopper,
-        receivers,
-        controls.as_slice(),
-        work,
-    );
+    let (receivers, are_kept) = end_receivers(rt, alloc, stopper, receivers, controls.as_slice());
     drop(controls);
     let served = served_if(are_kept, served);
     if matches!(end, RunEnd::Stop) && served.is_ok() {
@@ -131,7 +153,7 @@ fn end_server<R: Threads + Wait, S: Send + Drop>(
     ServerEnd::Ended(join_last(rt, servers))
 }
 
-/// If another run follows, ends the sender to destinations that are gone, which may be writing files, while the others go on.
+/// If another run follows, ends the sender to destinations that are gone, which may be writing a file, while the others go on.
 /// Returns its thread if none follows.
 fn end_parting<R: Threads + Wait + Clock, O, S, A: FirstWork<R, O, S>>(
     rt: &R,
@@ -159,20 +181,19 @@ fn join_last<R: Threads + Wait, T: Send + Drop>(rt: &R, children: Vec<JoinHandle
 
 /// Ends the receivers: those of connections, and once they have ended the one of datagrams. If there is one, it is the last.
 /// Returns how they ended, in order, and whether there was memory to keep all of that.
-fn end_receivers<R: Threads + Wait + Clock, O, S, A: FirstWork<R, O, S>>(
+fn end_receivers<R: Threads + Wait>(
     rt: &R,
     alloc: Global,
     stopper: Stopper<'_>,
     receivers: Vec<JoinHandle<ThreadEnd<DoorRecord, FedLog>>>,
     controls: &[Arc<ReceiverControl>],
-    work: &A,
 ) -> (Vec<ThreadEnd<DoorRecord, FedLog>>, bool) {
     let mut receivers = receivers;
     let last = receivers.pop();
     stopper.stop_receivers();
     wake_receivers(controls);
     let (mut ends, mut are_kept) = join_all(rt, alloc, receivers);
-    work.stop_datagrams();
+    stopper.stop_datagrams();
     wake_receivers(controls);
     if let Some(last) = last {
         are_kept = ends.push(last.join(rt)).is_ok() && are_kept;
@@ -205,4 +226,39 @@ fn join_all<R: Threads + Wait, T: Send + Drop>(
         }
     }
     (ends, are_kept)
+}
+
+/// What the first thread does while the others run, beside saying that the relay is ready. It does not reach the output.
+pub trait FirstWork<R: Wait + Clock, O, S> {
+    ghost use Rattle.std.specs.Prelude.{Bool};
+
+    // Whether no run was before.
+    ghost is_first: { Self → Bool };
+
+    /// Whether no run was before, so that the output is to say that the relay is ready.
+    fn is_first(&self) -> bool
+        ensures { result ≡ is_first self.now };
+
+    /// Does what is left to do for the run before, and answers commands until one is `stop`, or until another run is to follow.
+    fn serve(&mut self, rt: &R, alloc: Global);
+
+    /// How the run ends, now that the first thread has served, or that the run has failed: the carry-over of a run that
+    /// could not begin is not lost either.
+    fn end_of_run(&self, has_failed: bool) -> RunEnd;
+
+    /// Tells the sender to destinations that are gone to end, and answers commands until it has ended.
+    fn end_parting(&mut self, rt: &R, alloc: Global);
+
+    /// Closes the receivers before they are stopped, so that they read what was sent to them.
+    fn close_receivers(&mut self, rt: &R, alloc: Global, controls: &[Arc<ReceiverControl>]);
+
+    /// Waits, once the receivers have ended, for as long as the senders are to go on, and notes for whom it does not wait. Then, if
+    /// files keep what was not sent, it has the senders write them, and waits until they have.
+    fn drain(&mut self, rt: &R, alloc: Global);
+
+    /// Ends the waits of the senders, so that they see their stop flags.
+    fn wake_senders(&self);
+
+    /// Keeps what the watching threads left: the log's output, and the status server.
+    fn keep_watchers(&mut self, log: Option<O>, server: Option<S>);
 }

@@ -1,17 +1,17 @@
-//! The threads of a relay: one for each receiver and each sender, and one for each that watches them.
+//! The threads of a relay: one for each receiver and each sender, and the watching threads.
 
-ghost use Rattle.std.specs.Prelude.{◌≡◌};
+ghost use Rattle.std.specs.Prelude.{◌≡◌, IfErr, OnOk};
+ghost use Rattle.std.specs.Io.KnownBytes.{Appends};
+ghost use Rattle.relay_files.specs.Output.{GrowsByPart};
 ghost use Rattle.run_threads.specs.Served.{Served, opening};
 ghost use denote.Param.Send.{IsSync, IsSend};
 
-use crate::ending::{ThreadEnds, end_threads};
-use crate::first_work::{FirstWork, serve_if};
-use crate::jobs::{Jobs, Receiving};
-use crate::thread_end::ThreadEnd;
+use crate::ending::{FirstWork, ThreadEnd, ThreadEnds, end_threads};
 use finished_run::FedLog;
 use locked_queues::{DoorRecord, OutletRecord};
 use mio_loops::WriteLog;
 use receivers::ReceiverControl;
+use relay_files::{RelayFault, write_out};
 use run_state::{Signals, Stopper, ThreadWork};
 use std::alloc::Global;
 use std::io::Write;
@@ -19,6 +19,46 @@ use std::rt::Clock;
 use std::sync::{Arc, Wait};
 use std::thread;
 use std::thread::{Builder, JoinHandle, Scope, Threads};
+
+/// What the threads of a run work on: its receivers and its senders, the sender to destinations that are gone, the keeper of
+/// files, the log and the status server, if any.
+#[derive(Drop)]
+pub struct Jobs<J, K, G, H, L, V> {
+    /// The receivers.
+    pub receiving: Receiving<J>,
+    /// The senders.
+    pub sending: Vec<K>,
+    /// The sender to destinations that are gone.
+    pub parting: Option<G>,
+    /// The keeper of files.
+    pub keeping: Option<H>,
+    /// The log.
+    pub logging: Option<L>,
+    /// The status server.
+    pub serving: Option<V>,
+}
+
+/// Receivers, the records of seats that are unused, and what closes and wakes the receivers.
+#[derive(Drop)]
+pub struct Receiving<J> {
+    /// The receivers.
+    pub jobs: Vec<J>,
+    /// The records of seats that are unused.
+    pub unused: Vec<DoorRecord>,
+    /// What closes and wakes the receivers.
+    pub controls: Vec<Arc<ReceiverControl>>,
+}
+
+impl<J> Receiving<J> {
+    /// No receivers. It takes no memory.
+    pub fn none(alloc: Global) -> Receiving<J> {
+        Receiving {
+            jobs: Vec::new(alloc),
+            unused: Vec::new(alloc),
+            controls: Vec::new(alloc),
+        }
+    }
+}
 
 /// The signals between the threads and the first one.
 #[derive(Clone, Copy)]
@@ -163,6 +203,41 @@ fn run_in_scope<
     let are_begun = started.wait_for_begun(rt, stopper.signals());
     let served = serve_if(rt, alloc, are_begun, work, output);
     end_threads(rt, alloc, stopper, started, served, work)
+}
+
+/// Says that the relay is ready, if no run was before, and serves. If not all threads have begun, it is out of memory, and
+/// nothing is written.
+fn serve_if<R: Wait + Clock, O, S, A: FirstWork<R, O, S>, W: Write>(
+    rt: &R,
+    alloc: Global,
+    are_begun: bool,
+    work: &mut A,
+    output: &mut W,
+) -> Result<(), RelayFault>
+    ensures { Served (opening (A.is_first work.old))
+        (W.contents output.old) (W.contents output.new) result }
+{
+    if !are_begun {
+        return Err(RelayFault::NoMemory);
+    }
+    let said = say_opening(work.is_first(), output);
+    if said.is_ok() {
+        work.serve(rt, alloc);
+    }
+    said
+}
+
+/// Writes that the relay is ready, if no run was before.
+fn say_opening<W: Write>(is_first: bool, output: &mut W) -> Result<(), RelayFault>
+    ensures ok { OnOk result
+        (Appends (W.contents output.old) (W.contents output.new) (opening is_first)) }
+    ensures err { IfErr result (λ fault. (fault ≡ RelayFault.Output)
+        × GrowsByPart (W.contents output.old) (W.contents output.new) (opening is_first)) }
+{
+    if is_first {
+        write_out(output, b"ready\n")?;
+    }
+    Ok(())
 }
 
 /// Starts a thread for each job.

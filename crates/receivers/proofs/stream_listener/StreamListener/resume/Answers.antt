@@ -1,5 +1,5 @@
 use Rattle.std.proofs.Common.{◌++◌, ◌∷◌, [], List, sym, ap, ◌∙◌}
-use Rattle.receivers.specs.declared.handed_stream.HandedStream.{HandedStream}
+use Rattle.receivers.specs.declared.handing.HandedStream.{HandedStream}
 use Rattle.receivers.proofs.AcceptedLemmas.{IfTaken-weaker}
 use Rattle.receivers.proofs.stream_listener.StreamListener.resume.Goals as goal
 

@@ -1,5 +1,5 @@
 use Rattle.run_threads.proofs.ServedLemmas.{Served-of, Served-nothing}
-use Rattle.run_threads.proofs.first_work.serve_if.Goals as goal
+use Rattle.run_threads.proofs.threads.serve_if.Goals as goal
 
 pub returns-then-not-are_begun : goal.returns-then-not-are_begun
 returns-then-not-are_begun g c = Served-nothing _ _

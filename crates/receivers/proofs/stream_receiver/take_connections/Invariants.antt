@@ -1,5 +1,5 @@
 use Rattle.std.proofs.Common.{◌≡◌}
-use Rattle.receivers.proofs.taking.take_connections.Given as goal
+use Rattle.receivers.proofs.stream_receiver.take_connections.Given as goal
 
 -- readers and log are as they were
 abbrev pub invariant-loop : goal.invariant-loop
