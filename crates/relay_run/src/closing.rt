@@ -1,16 +1,19 @@
-//! What is written at the end of a run: the line that says whether it settled, and its record; and the fault of its threads.
+//! The end of a run: what its threads left, with the first fault of one, the line that says whether it settled, and its record.
 
-ghost use Rattle.std.specs.Prelude.{◌≡◌, ◌≤◌, length, None, IfOk, IfErr};
+ghost use Rattle.std.specs.Prelude.{◌≡◌, ◌≤◌, length, None, IfOk, IfErr, ◌⊎◌, map, IsErrOf, IsOk, OnOk};
 ghost use Rattle.std.specs.Io.KnownBytes.{Appends};
 ghost use Rattle.std.specs.String.{string_bytes};
 ghost use Rattle.relay_run.specs.Closing.{closing_line, ended_line, differs_line, closing_status, input_fault, output_fault};
-ghost use Rattle.relay_run.specs.Running.{ClosesWith};
+ghost use Rattle.relay_run.specs.Running.{ClosesWith, first_fault, thread_fault};
 
-use finished_run::{FinishedRun, Recorder, RunPlace};
-use locked_queues::{SettleFault, Settled};
+use finished_run::{FinishedRun, Recorder, RunPlace, ThreadLogs};
+use locked_queues::{DoorRecord, OutletRecord, SettleFault, Settled};
 use mio_loops::ReadinessFault;
-use relay_base::{LARGEST_MESSAGE, LARGEST_QUEUE_SIZE, NoMemory};
+use relay_base::{LARGEST_MESSAGE, LARGEST_QUEUE_SIZE, NoMemory, add};
 use relay_files::{RelayFault, Status, write_out};
+use relay_ports::FirstPorts;
+use relay_watchers::{LogEnd, StatusServer};
+use run_threads::{ThreadEnd, ThreadEnds};
 use std::alloc::Global;
 use std::fmt::Write as _;
 use std::io::Write;
@@ -115,7 +118,7 @@ fn closing_status(settled: &Result<Settled, SettleFault>) -> Status
 }
 
 /// The fault of a run whose receiver ended with this fault.
-pub(crate) fn input_fault(fault: ReadinessFault) -> RelayFault
+fn input_fault(fault: ReadinessFault) -> RelayFault
     ensures { result ≡ input_fault fault }
 {
     match fault {
@@ -132,4 +135,107 @@ pub(crate) fn output_fault(fault: ReadinessFault) -> RelayFault
         ReadinessFault::Device => RelayFault::Output,
         ReadinessFault::NoMemory => RelayFault::NoMemory,
     }
+}
+
+/// What doors and outlets recorded, what receivers and senders logged, and the fault of a thread, if one had a fault.
+#[derive(Drop)]
+pub(crate) struct Records {
+    pub(crate) doors: Vec<DoorRecord>,
+    pub(crate) outlets: Vec<OutletRecord>,
+    pub(crate) logs: ThreadLogs,
+    pub(crate) fault: Option<RelayFault>,
+}
+
+impl Records {
+    /// Nothing is known of what the threads recorded. It takes no memory.
+    pub(crate) fn none(alloc: Global) -> Records {
+        Records {
+            doors: Vec::new(alloc),
+            outlets: Vec::new(alloc),
+            logs: ThreadLogs {
+                fed: Vec::new(alloc),
+                written: Vec::new(alloc),
+            },
+            fault: None,
+        }
+    }
+}
+
+/// What the threads of a run left: what they recorded, the ports of the first one, the log, if there is one, and the status server.
+#[derive(Drop)]
+pub(crate) struct RunLeft<O> {
+    pub(crate) records: Records,
+    pub(crate) ports: FirstPorts,
+    pub(crate) log: Option<LogEnd<O>>,
+    pub(crate) server: Option<StatusServer>,
+}
+
+/// What the threads recorded, with the records of unused seats, and the first fault of a thread.
+pub(crate) fn records_of(alloc: Global, ends: ThreadEnds) -> Result<Records, RelayFault>
+    ensures fault { IfOk result (λ records. records.fault
+        ≡ thread_fault (map (λ end. end.fault) ends.receivers.items)
+        (map (λ end. end.fault) ends.senders.items)) }
+    ensures served { OnOk result (IsOk ends.served) }
+    ensures err { IfErr result (λ fault. IsErrOf ends.served fault ⊎ (fault ≡ RelayFault.NoMemory)) }
+{
+    let ThreadEnds {
+        receivers,
+        senders,
+        unused,
+        served,
+    } = ends;
+    served?;
+    let fault = thread_fault(receivers.as_slice(), senders.as_slice());
+    let mut doors = unused;
+    let mut fed = Vec::new(alloc);
+    add_records(&mut doors, &mut fed, receivers)?;
+    let mut outlets = Vec::new(alloc);
+    let mut written = Vec::new(alloc);
+    add_records(&mut outlets, &mut written, senders)?;
+    Ok(Records {
+        doors,
+        outlets,
+        logs: ThreadLogs { fed, written },
+        fault,
+    })
+}
+
+/// Adds what threads recorded, and what they logged.
+fn add_records<T: Drop, L: Drop>(
+    records: &mut Vec<T>,
+    logs: &mut Vec<Option<L>>,
+    ends: Vec<ThreadEnd<T, L>>,
+) -> Result<(), NoMemory> {
+    for end in ends {
+        add(records, end.record)?;
+        add(logs, end.log)?;
+    }
+    Ok(())
+}
+
+/// The fault of a run whose threads ended in these ways: that of the first receiver that has one, and if none has, that
+/// of the first sender that has one.
+fn thread_fault<T, L, U, M>(
+    receivers: &[ThreadEnd<T, L>],
+    senders: &[ThreadEnd<U, M>],
+) -> Option<RelayFault>
+    ensures { result ≡ thread_fault (map (λ end. end.fault) receivers.now)
+        (map (λ end. end.fault) senders.now) }
+{
+    match first_fault(receivers) {
+        Some(fault) => Some(input_fault(fault)),
+        None => first_fault(senders).map(output_fault),
+    }
+}
+
+/// The first fault of threads.
+fn first_fault<T, L>(ends: &[ThreadEnd<T, L>]) -> Option<ReadinessFault>
+    ensures { result ≡ first_fault (map (λ end. end.fault) ends.now) }
+{
+    for end in ends {
+        if end.fault.is_some() {
+            return end.fault;
+        }
+    }
+    None
 }

@@ -4,12 +4,11 @@ ghost use Rattle.std.specs.Prelude.{◌≡◌, ℕ, ◌≤◌, ◌+◌, ◌-◌,
 ghost use Rattle.dest_queue.specs.EarlierCounts.{sum};
 ghost use Rattle.line_text.specs.Print.{printed_lines};
 ghost use Rattle.handover.specs.Rest.{left_text};
-ghost use Rattle.store_lines.specs.LeftDest.{text_left, text_of_both};
+ghost use Rattle.store_lines.specs.DestCarryOver.{text_left, text_of_both};
 
-use crate::closing::closing_text;
+use crate::closing::{Records, closing_text};
 use crate::relay::Relay;
 use crate::shape::Shape;
-use crate::thread_records::Records;
 use dest_queue::{EarlierCounts, Hand, QueuedPoints};
 use dest_writer::Writer;
 use finished_run::{FinishedRun, Recorder, RunPlace, RunShape};
@@ -21,7 +20,7 @@ use relay_files::RunConfiguration;
 use run_state::RunNotes;
 use std::alloc::Global;
 use std::sync::Arc;
-use store_lines::{DestSlots, GoneDests, LeftDest, counts_of};
+use store_lines::{DestCarryOver, DestSlots, GoneDests, counts_of};
 
 /// What a run leaves that another one follows: what its record is made of, and, by its own places, what was noted, what is left
 /// for each destination and how much of its queue found no room there, and the connections of each receiver.
@@ -136,8 +135,8 @@ pub(crate) fn ended_of<B: Set>(
     }
 }
 
-/// Puts the datapoints of a destination's queue, the last one that was not taken yet, behind what is left for it, and notes
-/// what was counted. Returns how many found no room, and were dropped.
+/// Puts what a destination's queue held behind what is left for it, and notes what was counted. The set gives its queues up
+/// from the last one on, so this is the last one that it still has. Returns how many datapoints found no room, and were dropped.
 fn add_queue(
     alloc: Global,
     set: &mut EndedSet,
@@ -182,7 +181,7 @@ fn without(counts: EarlierCounts, dropped: u64) -> EarlierCounts
 
 /// Puts the datapoints of a queue behind what is left for its destination. Returns how many were dropped: those for which there
 /// was no room, or all if there is no memory for what sends them.
-fn add_points(alloc: Global, left: &mut LeftDest, points: QueuedPoints, shape: &Shape) -> usize
+fn add_points(alloc: Global, left: &mut DestCarryOver, points: QueuedPoints, shape: &Shape) -> usize
     requires limit { (1 ≤ shape.now.limit) × (shape.now.limit ≤ LARGEST_MESSAGE) }
     ensures text { (kept : ℕ) × (text_of_both left.new.rest left.new.later
         ≡ text_of_both left.old.rest left.old.later ++ printed_lines (take kept points))

@@ -1,13 +1,12 @@
 //! What becomes of what a run of a reload held that failed, or could not begin: files keep it, as far as there are some.
 
+use crate::closing::Records;
 use crate::ended_run::{EndedRun, ended_of};
-use crate::inherited::Inherited;
 use crate::prepared_run::PreparedRun;
 use crate::relay::Relay;
 use crate::runtime::RelayRuntime;
 use crate::spool_folder::SpoolFolder;
-use crate::start::Process;
-use crate::thread_records::Records;
+use crate::start::{Process, RunCarryOver};
 use locked_queues::Set;
 use log_lines::{RelayEnd, push_relay_end_line};
 use relay_watchers::LogEnd;
@@ -17,20 +16,20 @@ use std::io::Write;
 use store_lines::{DestSlots, spool_slots};
 
 /// Writes to files what ended runs left to one that could not be opened, and says how much was kept and lost.
-pub(crate) fn spool_inherited<R: RelayRuntime, F>(
+pub(crate) fn spool_carry_over<R: RelayRuntime, F>(
     rt: &R,
     alloc: Global,
-    inherited: Inherited,
+    carry_over: RunCarryOver,
     process: &Process<'_, F>,
 ) {
     let limit = process.file_limit();
-    let left = spool_both(rt, alloc, &inherited.slots, &inherited.gone.slots, limit);
-    drop(inherited);
+    let left = spool_both(rt, alloc, &carry_over.slots, &carry_over.gone.slots, limit);
+    drop(carry_over);
     say_left(alloc, left, process.setup.folder);
 }
 
-/// Writes to files what a run held that failed, if it is one of a reload: that before, of which what the threads recorded could
-/// not be kept, or that behind, which could not begin. Says how much was kept and lost, in the log if it is there.
+/// After a reload, writes to files what a run held that failed: the run before, if the records of its threads could not be
+/// kept, or the run behind, if it could not begin. Says in the log, if it is there, how much was kept and lost.
 pub(crate) fn spool_failed<B: Set, R: RelayRuntime, L: Write + Drop, F>(
     rt: &R,
     alloc: Global,

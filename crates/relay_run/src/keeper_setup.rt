@@ -84,7 +84,6 @@ fn keeper_with<'x, B: Set, R: RelayRuntime>(
         diversions: &relay.diversions,
         notes: end.spool_notes(),
         gate: &relay.gate,
-        orders: &relay.orders,
         bound: SpoolBound::new(end.spool_size(), dests),
         used: end.spool_used(),
         limit: relay.file_limit,

@@ -11,14 +11,9 @@
 #![tactic(auto)]
 
 mod admin;
-mod admin_turn;
 mod closing;
-mod disk_waits;
-mod end_waits;
 mod ended_run;
 mod failed_run;
-mod files_asked;
-mod inherited;
 mod keeper_setup;
 mod next_start;
 mod parting_setup;
@@ -27,13 +22,13 @@ mod receiver_job;
 mod receiver_setup;
 mod relay;
 mod relay_jobs;
+mod reload;
 mod reload_source;
 mod report_source;
 mod run_command;
+mod run_end_work;
 mod run_levels;
-mod run_observers;
 mod run_setup;
-mod running;
 mod runtime;
 mod sender_job;
 mod sender_setup;
@@ -42,15 +37,10 @@ mod shared_parts;
 mod shortage;
 mod spool_folder;
 mod start;
-mod thread_end;
-mod thread_jobs;
-mod thread_records;
 
-pub use files_asked::FilesAsked;
 pub use relay_ports::{SystemTables, descriptors_needed, free_descriptors};
-pub use reload_source::{RefusedReload, ReloadSource};
+pub use reload_source::{FilesAsked, RefusedReload, ReloadSource};
 pub use run_command::run;
-pub use run_observers::RunObservers;
-pub use run_setup::RunSetup;
+pub use run_setup::{RunObservers, RunSetup};
 pub use runtime::RelayRuntime;
 pub use spool_folder::{SpoolFault, SpoolFolder};

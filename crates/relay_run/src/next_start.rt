@@ -1,11 +1,10 @@
 //! What a run begins with that follows another one.
 
 use crate::ended_run::EndedRun;
-use crate::inherited::Inherited;
 use crate::prepared_run::{KeptPlaces, NextPlan};
 use crate::relay::Relay;
 use crate::shape::shape_of;
-use crate::start::{Begun, Process, Start};
+use crate::start::{Begun, Process, RunCarryOver, Start};
 use conf_text::Dest;
 use dest_queue::EarlierCounts;
 use locked_queues::Set;
@@ -18,7 +17,7 @@ use spool::{DestSpool, SpoolFiles};
 use std::alloc::Global;
 use std::fmt::Write as _;
 use std::mem;
-use store_lines::{DestSlots, GoneDests, LeftDest, PartingDest};
+use store_lines::{DestCarryOver, DestSlots, GoneDests, PartingDest};
 
 /// The places of the destinations of a run that follows another one: empty lists with room for all. They are there before that
 /// one ends: what it leaves needs no more memory.
@@ -29,8 +28,8 @@ pub(crate) struct NewPlaces {
     earlier: Vec<EarlierCounts>,
     rests: Vec<RestNotes>,
     gone: GoneDests,
-    // The destinations of the run before, and then those that were gone before it: those that are gone now, if something is
-    // left.
+    // For each destination of the run before, and then for each that was gone before it: what is left for it, if it is gone
+    // now.
     parting: Vec<Option<PartingDest>>,
 }
 
@@ -121,15 +120,18 @@ pub(crate) fn start_after<F>(
     } = files;
     drop(said);
     let mut new_places = new_places;
-    new_places.inherit(ended, &places, &mut found);
+    new_places.carry_over(ended, &places, &mut found);
     let drain_millis = process.setup.options.drain.saturating_mul(1_000);
     new_places.add_gone(ended, millis.saturating_add(drain_millis));
-    let inherited = inherited_of(alloc, ended, new_places, logged, news);
+    let carry_over = carry_over_of(alloc, ended, new_places, logged, news);
     let mut shared = shared;
-    if inherited.gone.are_none() {
+    if carry_over.gone.are_none() {
         shared.drop_gone(alloc);
     }
-    let stores = places.kept.len().saturating_add(inherited.gone.dests.len());
+    let stores = places
+        .kept
+        .len()
+        .saturating_add(carry_over.gone.dests.len());
     first.keep_for_stores(stores_before, stores);
     let shape = shape_of(configuration.settings(), receivers.len(), process);
     let begun = Begun {
@@ -141,7 +143,7 @@ pub(crate) fn start_after<F>(
             status: server,
         },
         shared,
-        inherited,
+        carry_over,
     };
     Start { begun, blank }
 }
@@ -188,13 +190,13 @@ fn add_parting(
 }
 
 /// What the next run begins with of what this one leaves, with its destinations at these places. It takes no memory.
-fn inherited_of(
+fn carry_over_of(
     alloc: Global,
     ended: &mut EndedRun,
     places: NewPlaces,
     logged: Vec<ReceiverLog>,
     news: String,
-) -> Inherited {
+) -> RunCarryOver {
     let NewPlaces {
         slots,
         dests,
@@ -210,7 +212,7 @@ fn inherited_of(
         earlier,
         rests,
     };
-    Inherited {
+    RunCarryOver {
         notes,
         slots,
         streams: mem::replace(&mut ended.streams, Vec::new(alloc)),
@@ -223,7 +225,7 @@ fn inherited_of(
 impl NewPlaces {
     /// Gives each destination of the next run what is left for it: of the run that has ended, or as a destination that was gone,
     /// or its files. It takes no memory.
-    fn inherit(
+    fn carry_over(
         &mut self,
         ended: &mut EndedRun,
         places: &KeptPlaces,
@@ -242,7 +244,13 @@ impl NewPlaces {
     }
 
     /// The destination of the next place, which was at this one before, if it was, has this left.
-    fn add(&mut self, ended: &mut EndedRun, place: usize, kept: Option<DestId>, left: LeftDest) {
+    fn add(
+        &mut self,
+        ended: &mut EndedRun,
+        place: usize,
+        kept: Option<DestId>,
+        left: DestCarryOver,
+    ) {
         let (queued, in_hand) = left.counts();
         let rest = notes_of(ended, kept, left.is_behind_file());
         rest.note(queued, in_hand);
@@ -296,13 +304,13 @@ fn left_for(
     kept: Option<DestId>,
     returned: Option<DestId>,
     files: Option<DestSpool>,
-) -> LeftDest {
+) -> DestCarryOver {
     let known = match (kept, returned) {
         (Some(place), _) => Some(ended.slots.take(place.0)),
         (None, Some(place)) => Some(ended.gone.slots.take(place.0)),
         (None, None) => None,
     };
-    LeftDest::known_or_new(known, files)
+    DestCarryOver::known_or_new(known, files)
 }
 
 /// Takes the events of a destination that was at this place; none has happened to another.

@@ -39,7 +39,6 @@ pub(crate) fn parting_job<'x, B: Set, R: RelayRuntime>(
     match SenderPlaces::new(alloc, count, limit, files, count, rests) {
         Ok(places) => Ok(Some(PartingJob {
             gone,
-            orders: &relay.orders,
             connector,
             places,
             limit,

@@ -4,10 +4,9 @@
 
 ghost use Rattle.std.specs.Prelude.{◌≤◌};
 
-use crate::files_asked::FilesAsked;
 use crate::next_start::NewPlaces;
 use crate::relay::Relay;
-use crate::reload_source::RefusedReload;
+use crate::reload_source::{FilesAsked, RefusedReload};
 use crate::shape::Shape;
 use crate::shared_parts::SharedParts;
 use crate::shortage::{Needs, Shortage, try_needs};

@@ -157,7 +157,6 @@ fn receiver_job<'x, B: Set, R: RelayRuntime>(
         inlet,
         number: receiver,
         share,
-        orders: &relay.orders,
         watch: relay.watches.of(receiver),
         began: relay.began,
     };

@@ -3,10 +3,9 @@
 ghost use Rattle.std.specs.Prelude.{◌≡◌, ◌≤◌, true, length, IfErr};
 ghost use Rattle.relay_ports.specs.StartFault.{is_start_fault};
 
-use crate::inherited::Inherited;
 use crate::shape::Shape;
 use crate::shared_parts::SharedParts;
-use crate::start::{Begun, Process, Start};
+use crate::start::{Begun, Process, RunCarryOver, Start};
 use finished_run::{FinishedRun, ThreadLogs};
 use live_watch::WatchPlaces;
 use locked_queues::{
@@ -18,7 +17,7 @@ use relay_base::{LARGEST_MESSAGE, LARGEST_QUEUE_SIZE, MOST_DESTINATIONS};
 use relay_files::{RelayFault, RunConfiguration};
 use relay_ports::{FirstPorts, Inlet, Ports};
 use relay_watchers::{LateNews, ReceiverLog, StatusServer};
-use run_state::{DestSources, EndOrders, RunState};
+use run_state::{DestSources, RunState};
 use senders::WakeGate;
 use std::alloc::Global;
 use std::sync::{Arc, Wait};
@@ -29,10 +28,10 @@ use store_lines::{DestSlots, Diversions, GoneDests};
 pub(crate) const NAME: u64 = 1;
 
 /// What a run is made of, and its threads borrow: its configuration and its numbers, its queues, the gate that wakes the
-/// senders, and what the threads share beside these; the orders that some get at the end; what is left for destinations
-/// between two runs, and for those that are gone, with what wakes their sender; the destinations that may be diverted to files,
-/// with what wakes the keeper of these; the connections that go from one run to the next; what the first thread has for the
-/// log; and where receivers hand over what they note for a watch.
+/// senders, and what the threads share beside these; what is left for destinations between two runs, and for those that are gone,
+/// with what wakes their sender; the destinations that may be diverted to files, with what wakes the keeper of these; the
+/// connections that go from one run to the next; what the first thread has for the log; and where receivers hand over what they
+/// note for a watch.
 #[derive(Drop)]
 pub(crate) struct Relay<B: Set> {
     pub(crate) configuration: RunConfiguration,
@@ -40,7 +39,6 @@ pub(crate) struct Relay<B: Set> {
     pub(crate) queues: Queues<B>,
     pub(crate) gate: WakeGate,
     pub(crate) state: RunState,
-    pub(crate) orders: EndOrders,
     pub(crate) slots: DestSlots,
     pub(crate) gone: GoneDests,
     pub(crate) gone_gate: WakeGate,
@@ -69,7 +67,7 @@ pub(crate) struct OpenRelay<B: Set, L> {
 }
 
 /// What the threads of a run are given, each its part: the seats at the queues, what receivers receive with, what each
-/// sender waits with, and what that to destinations that are gone and the keeper of files do, and what those get that watch the others.
+/// sender, the sender to destinations that are gone and the keeper of files wait with, and what the watching threads get.
 #[derive(Drop)]
 pub(crate) struct Parts<B: Set, L> {
     pub(crate) seats: Seats<B>,
@@ -101,7 +99,7 @@ pub(crate) struct Seats<B: Set> {
 #[derive(Drop)]
 pub(crate) struct RefusedStart {
     pub(crate) fault: RelayFault,
-    pub(crate) inherited: Inherited,
+    pub(crate) carry_over: RunCarryOver,
 }
 
 impl<B: Set> Relay<B> {
@@ -131,7 +129,7 @@ impl<B: Set> Relay<B> {
                 drop(log);
                 Err(RefusedStart {
                     fault: RelayFault::NoMemory,
-                    inherited: begun.inherited,
+                    carry_over: begun.carry_over,
                 })
             }
         }
@@ -201,7 +199,7 @@ fn open_relay<B: Set, L: Drop, F>(
         shape,
         ports,
         shared,
-        inherited,
+        carry_over,
     } = begun;
     let Opened {
         queues,
@@ -218,14 +216,14 @@ fn open_relay<B: Set, L: Drop, F>(
         keeper_watch,
         watches,
     } = shared;
-    let Inherited {
+    let RunCarryOver {
         notes,
         mut slots,
         streams,
         gone,
         logged,
         news,
-    } = inherited;
+    } = carry_over;
     let Ports {
         receivers,
         first,
@@ -240,7 +238,6 @@ fn open_relay<B: Set, L: Drop, F>(
             queues,
             gate,
             state: state.with_notes(notes),
-            orders: EndOrders::new(),
             slots,
             gone,
             gone_gate,

@@ -11,12 +11,11 @@ use crate::relay::{Parts, Relay, Seats, Watching};
 use crate::runtime::RelayRuntime;
 use crate::sender_job::SenderJob;
 use crate::sender_setup::senders_of;
-use crate::thread_jobs::all_jobs;
 use locked_queues::Set;
 use relay_base::NoMemory;
 use relay_files::RelayFault;
 use relay_watchers::{LogJob, ReceiverLog, StatusJob, Watched, watchers_of};
-use run_threads::Jobs;
+use run_threads::{Jobs, Receiving};
 use senders::HostThreads;
 use std::alloc::Global;
 use std::io::Write;
@@ -112,4 +111,34 @@ fn watching_of<'x, B: Set, R, L: Write + Drop>(
         began: relay.began,
     };
     watchers_of(maker.alloc, &watched, logs, news, log, status)
+}
+
+/// The jobs, if all could be made, or else the fault of the first kind that could not. It knows nothing of them: what the jobs of
+/// a relay are made of is dropped here without being taken apart.
+fn all_jobs<J: Drop, K: Drop, G: Drop, H: Drop, L: Drop, V: Drop>(
+    receiving: Result<Receiving<J>, RelayFault>,
+    sending: Result<Vec<K>, RelayFault>,
+    parting: Result<Option<G>, RelayFault>,
+    keeping: Result<Option<H>, RelayFault>,
+    watching: Result<(Option<L>, Option<V>), NoMemory>,
+) -> Result<Jobs<J, K, G, H, L, V>, RelayFault>
+    requires receiving { IfErr receiving (λ fault. is_start_fault fault ≡ true) }
+    requires sending { IfErr sending (λ fault. is_start_fault fault ≡ true) }
+    requires parting { IfErr parting (λ fault. is_start_fault fault ≡ true) }
+    requires keeping { IfErr keeping (λ fault. is_start_fault fault ≡ true) }
+    ensures { IfErr result (λ fault. is_start_fault fault ≡ true) }
+{
+    let receiving = receiving?;
+    let sending = sending?;
+    let parting = parting?;
+    let keeping = keeping?;
+    let (logging, serving) = watching?;
+    Ok(Jobs {
+        receiving,
+        sending,
+        parting,
+        keeping,
+        logging,
+        serving,
+    })
 }

@@ -1,14 +1,12 @@
 //! Who reads the files of a configuration for a reload, and opens those of its destinations.
 
-use crate::files_asked::FilesAsked;
+use crate::spool_folder::SpoolFolder;
 use admin_client::Refusal;
-use relay_base::NoMemory;
+use conf_text::Dest;
+use relay_base::{NoMemory, add};
 use relay_files::RunConfiguration;
-use spool::{OpenFault, SpoolFiles, Unopened};
+use spool::{FolderAt, OpenFault, SpoolDisk, SpoolFiles, Unopened, open_others};
 use std::alloc::Global;
-
-/// How many milliseconds each call to a disk may take that a reload waits for.
-pub(crate) const READING_TIMEOUT_MS: u64 = 10_000;
 
 /// Who reads the files of a configuration for a reload, those that the relay began with, opens those of its destinations, and has
 /// the key of the admin port. No call waits for a disk.
@@ -55,7 +53,7 @@ impl RefusedReload {
         RefusedReload::of_device(alloc, "files: not read within 10 seconds\n")
     }
 
-    /// A call to the disk of the spool has not ended in time.
+    /// A use of the spool's disk has not ended in time.
     pub(crate) fn disk_hangs(alloc: Global) -> RefusedReload {
         RefusedReload::of_device(alloc, "spool: the disk does not answer within 10 seconds\n")
     }
@@ -99,4 +97,58 @@ impl RefusedReload {
         }
         Some(answer)
     }
+}
+
+/// The files of a reload's destinations that the relay does not have yet. It borrows nothing, so another thread may open them.
+#[derive(Drop)]
+pub struct FilesAsked {
+    path: String,
+    owner: Option<u32>,
+    makes_segments: bool,
+    dests: Vec<Dest>,
+    are_known: Vec<bool>,
+}
+
+impl FilesAsked {
+    /// The files in a folder of those of these destinations that are not known. Refuses if out of memory.
+    pub(crate) fn new(
+        alloc: Global,
+        folder: SpoolFolder<'_>,
+        dests: &[Dest],
+        are_known: Vec<bool>,
+    ) -> Result<FilesAsked, NoMemory> {
+        let at = folder.at();
+        Ok(FilesAsked {
+            path: String::from_str(alloc, at.path)?,
+            owner: at.owner,
+            makes_segments: at.makes_segments,
+            dests: copies_of(alloc, dests)?,
+            are_known,
+        })
+    }
+
+    /// Opens the files, and waits for the disk.
+    pub fn open<D: SpoolDisk>(&self, disk: &D, alloc: Global) -> Result<SpoolFiles, Unopened> {
+        let folder = FolderAt {
+            path: self.path.as_str(),
+            owner: self.owner,
+            makes_segments: self.makes_segments,
+        };
+        open_others(
+            disk,
+            alloc,
+            folder,
+            self.dests.as_slice(),
+            self.are_known.as_slice(),
+        )
+    }
+}
+
+/// A copy of each of these destinations.
+fn copies_of(alloc: Global, dests: &[Dest]) -> Result<Vec<Dest>, NoMemory> {
+    let mut copies = Vec::new(alloc);
+    for dest in dests {
+        add(&mut copies, dest.clone()?)?;
+    }
+    Ok(copies)
 }

@@ -8,37 +8,36 @@
 //! makes the next run ready while the one before goes on, and holds what can be made then; `ended_of` takes that one apart, and
 //! `start_after`, which cannot fail, has what the next begins with.
 
-ghost use Rattle.std.specs.Prelude.{◌≡◌, false, Ok, Err, IfOk, IfErr, Result};
+ghost use Rattle.std.specs.Prelude.{◌≡◌, false, Ok, Err, IfOk, IfErr, OnOk, Result};
 ghost use Rattle.std.specs.Io.KnownBytes.{Appends};
 ghost use Rattle.std.specs.Option.{is_none};
 ghost use Rattle.locked_queues.specs.declared.settled.Settled.{Settled};
 ghost use Rattle.locked_queues.specs.declared.settled.SettleFault.{SettleFault};
 ghost use Rattle.relay_files.specs.Files.{AllReadAs};
 ghost use Rattle.relay_run.specs.Closing.{closing_line, closing_status};
-ghost use Rattle.relay_run.specs.Running.{RunEnds, RelayFails, ClosesWith, EndsWithStatus, EndsWithFault};
+ghost use Rattle.relay_run.specs.Running.{RunEnds, RelayFails, ClosesWith, EndsWithStatus, EndsWithFault, IsThreadFault, FailsBeforeClosing};
 ghost use Rattle.run_threads.specs.Served.{opening, ready_line};
 ghost use Rattle.relay_run.specs.AfterRun.{EndsARun, IfStopped, IfFollowed};
 
 use crate::admin::{AdminPort, FirstState, RunBefore};
-use crate::closing::write_end;
+use crate::closing::{Records, RunLeft, records_of, write_end};
 use crate::ended_run::ended_of;
-use crate::failed_run::{spool_failed, spool_inherited};
+use crate::failed_run::{spool_carry_over, spool_failed};
 use crate::next_start::{KeptByFirst, start_after};
 use crate::prepared_run::PreparedRun;
 use crate::relay::{NAME, OpenRelay, Parts, Relay};
+use crate::relay_jobs::jobs_of;
 use crate::reload_source::ReloadSource;
-use crate::run_observers::RunObservers;
-use crate::run_setup::RunSetup;
-use crate::running::run_until_ended;
+use crate::run_setup::{RunObservers, RunSetup};
 use crate::runtime::RelayRuntime;
 use crate::spool_folder::put_failures;
 use crate::start::{Process, Start};
-use crate::thread_records::RunLeft;
 use finished_run::Recorder;
 use locked_queues::Set;
 use mio_loops::{SystemTimes, TimeSource};
 use relay_files::{RelayFault, RunConfiguration, Source, Sources, Status};
 use relay_ports::FirstPorts;
+use run_threads::run_all_threads;
 use senders::HostThreads;
 use std::alloc::Global;
 use std::io::Write;
@@ -52,9 +51,9 @@ use std::time::Instant;
 /// thread for each receiver and each sender, waits until each has the memory that it needs to begin, and writes `ready`
 /// and byte 10. Then 127.0.0.1 takes commands at the admin port, one for each connection: it answers `report` with the
 /// report, `stop` with `stopping`, `reload` once the run that follows has begun, `files` with what a reload reads, `route` with
-/// where a name goes, `watch` with what a watch has gathered, and all else with `unknown command`. After `stop` it joins the threads, compares the
-/// queues' counts and histories with what the threads recorded, and writes one line: `settled`, `sealed D`, `totals D`,
-/// `differs D N`, `no order` or `strangers`, where D is a destination's place in DESTINATIONS.
+/// where a name goes, `watch` with what a watch has gathered, and all else with `unknown command`. After `stop` it joins the
+/// threads, compares the queues' counts and histories with what the threads recorded, and writes one line: `settled`,
+/// `sealed D`, `totals D`, `differs D N`, `no order` or `strangers`, where D is a destination's place in DESTINATIONS.
 ///
 /// It ends with the first fault of the files; with `Listen` if a port cannot be bound; with `Output` if a
 /// write failed, and with `NoMemory` if memory ran out or a thread could not be started. A thread that
@@ -64,7 +63,7 @@ use std::time::Instant;
 ///
 /// If it is given a log, one more thread looks once a second at the events of each destination and each receiver since its
 /// last line, and writes at most one line of each kind (`log_lines`). What it cannot write is lost, and a write that
-/// fails changes nothing; one that waits holds up the end of the run.
+/// fails changes nothing; one that waits holds up the end of the run for a second at most.
 ///
 /// With [`RunOptions::drain`] the receivers end first after `stop`. The senders go on until nothing is queued or
 /// in hand at any destination that is connected, at most for that many seconds. The last lines of the log then say how
@@ -228,7 +227,7 @@ fn run_relay<
         Ok(opened) => opened,
         Err(refused) => {
             drop(before);
-            spool_inherited(rt, alloc, refused.inherited, process);
+            spool_carry_over(rt, alloc, refused.carry_over, process);
             return Err(refused.fault);
         }
     };
@@ -279,6 +278,39 @@ fn run_relay<
             stopped(stop(alloc, relay, left, output, recorder))
         }
     }
+}
+
+/// Runs the threads of the open relay with this admin port until it is stopped, or another run is to follow, and they have ended,
+/// and returns what they recorded. Refuses a fault of the start, and then nothing is written.
+fn run_until_ended<
+    B: Set + Send + Sync,
+    R: RelayRuntime,
+    W: Write,
+    L: Write + Send + Drop,
+    F: ReloadSource,
+    K: Recorder,
+>(
+    rt: &R,
+    alloc: Global,
+    port: &mut AdminPort<'_, B, L, F, K>,
+    hosts: &HostThreads,
+    parts: Parts<B, L>,
+    output: &mut W,
+) -> Result<Records, RelayFault>
+    ensures ok { OnOk result (Appends (W.contents output.old) (W.contents output.new)
+        (opening (is_none port.old.state.now.before.waiting))) }
+    ensures fault { IfOk result (λ records. IsThreadFault records.fault) }
+    ensures err { IfErr result (FailsBeforeClosing
+        (opening (is_none port.old.state.now.before.waiting))
+        (W.contents output.old) (W.contents output.new)) }
+{
+    let relay = port.relay;
+    let jobs = match jobs_of(rt, alloc, relay, hosts, parts) {
+        Ok(jobs) => jobs,
+        Err(fault) => return Err(fault),
+    };
+    let ends = run_all_threads(rt, alloc, jobs, relay.state.stopper(), port, output);
+    records_of(alloc, ends)
 }
 
 /// Settles the last run, writes what it leaves, and ends what watched it.

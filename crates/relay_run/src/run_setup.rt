@@ -1,4 +1,4 @@
-//! How a program has a relay run.
+//! How a program has a relay run, and who learns what it does.
 
 use crate::spool_folder::SpoolFolder;
 use relay_options::RunOptions;
@@ -13,4 +13,13 @@ pub struct RunSetup<'a, F> {
     pub folder: Option<SpoolFolder<'a>>,
     /// Who reads its files for a reload.
     pub files: &'a F,
+}
+
+/// Who learns what a relay does: its log, if it has one, and who records its runs, if somebody does.
+#[derive(Drop)]
+pub struct RunObservers<L, K> {
+    /// The output of the log.
+    pub log: Option<L>,
+    /// Who records the runs.
+    pub recorder: Option<K>,
 }

@@ -120,7 +120,6 @@ fn sender_job<'x, B: Set, R: RelayRuntime>(
             senders: relay.shape.senders,
         },
         limit: relay.shape.limit,
-        orders: &relay.orders,
         divert: divert_of(relay),
         levels: RunLevels::new(maker.rt, relay),
         end: relay.state.end(),

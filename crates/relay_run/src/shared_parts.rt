@@ -15,8 +15,8 @@ use std::alloc::Global;
 use std::net::Net;
 use store_lines::Diversions;
 
-/// What a relay has beside its queues: the gate that wakes the senders, what its threads share, what each sender waits with,
-/// and what that to destinations that are gone and the keeper of files do.
+/// What a relay has beside its queues: the gate that wakes the senders, what its threads share, and what each sender, the sender
+/// to destinations that are gone and the keeper of files wait with.
 #[derive(Drop)]
 pub(crate) struct SharedParts {
     pub(crate) gate: WakeGate,

@@ -3,7 +3,6 @@
 ghost use Rattle.std.specs.Prelude.{◌≡◌, ◌≤◌, true, length, IfErr};
 ghost use Rattle.relay_ports.specs.StartFault.{is_start_fault};
 
-use crate::inherited::Inherited;
 use crate::run_setup::RunSetup;
 use crate::runtime::RelayRuntime;
 use crate::shape::{Shape, shape_of};
@@ -11,15 +10,19 @@ use crate::shared_parts::SharedParts;
 use crate::spool_folder::{SpoolFolder, open_files};
 use conf_text::Settings;
 use locked_queues::BlankTotals;
-use relay_base::NoMemory;
+use receivers::HandedStreams;
+use relay_base::{NoMemory, add};
 use relay_files::{RelayFault, RunConfiguration};
 use relay_ports::{Ports, bind_all};
-use relay_watchers::StatusServer;
+use relay_watchers::{ReceiverLog, StatusServer};
+use run_state::RunNotes;
 use senders::HostThreads;
-use spool::{OpenFault, Unopened};
+use spool::{OpenFault, SpoolFiles, Unopened};
 use status_server::StatusListener;
 use std::alloc::Global;
+use std::sync::Arc;
 use std::time::Instant;
+use store_lines::{DestCarryOver, DestSlots, GoneDests};
 
 /// What a run begins with: all but its queues, and the totals of these.
 #[derive(Drop)]
@@ -36,13 +39,26 @@ pub(crate) struct Begun {
     pub(crate) shape: Shape,
     pub(crate) ports: Ports<StatusServer>,
     pub(crate) shared: SharedParts,
-    pub(crate) inherited: Inherited,
+    pub(crate) carry_over: RunCarryOver,
     ghost dests: { (shape.dests ≡ length configuration.settings.routing.destinations)
         × (1 ≤ shape.dests) × (shape.dests ≤ 64) },
     ghost size: { (1 ≤ shape.size) × (shape.size ≤ 1000000) },
     ghost limit: { (1 ≤ shape.limit) × (shape.limit ≤ 10000) },
     ghost receivers: { (1 ≤ shape.receivers) × (shape.receivers ≤ 8) },
     ghost senders: { (1 ≤ shape.senders) × (shape.senders ≤ 8) },
+}
+
+/// The carry-over of a run, which ended runs left to it: what was noted, what is left for each of its destinations, in their
+/// order, the connections of each receiver, the destinations that are gone, what the log has reported of receivers, and its
+/// first lines.
+#[derive(Drop)]
+pub(crate) struct RunCarryOver {
+    pub(crate) notes: RunNotes,
+    pub(crate) slots: DestSlots,
+    pub(crate) streams: Vec<Arc<HandedStreams>>,
+    pub(crate) gone: GoneDests,
+    pub(crate) logged: Vec<ReceiverLog>,
+    pub(crate) news: String,
 }
 
 /// What all runs of a process have in common: how its program has them run, the threads that look hosts up, whether they are
@@ -94,13 +110,13 @@ impl Start {
         };
         let shape = shape_of(settings, ports.receivers.len(), process);
         match begin_with(rt, alloc, settings, &shape, process.setup.folder) {
-            Ok((inherited, blank, shared)) => {
+            Ok((carry_over, blank, shared)) => {
                 let begun = Begun {
                     configuration,
                     shape,
                     ports,
                     shared,
-                    inherited,
+                    carry_over,
                 };
                 Ok(Start { begun, blank })
             }
@@ -161,17 +177,17 @@ fn begin_with<R: RelayRuntime>(
     settings: &Settings,
     shape: &Shape,
     folder: Option<SpoolFolder<'_>>,
-) -> Result<(Inherited, BlankTotals, SharedParts), RelayFault>
+) -> Result<(RunCarryOver, BlankTotals, SharedParts), RelayFault>
     ensures { IfErr result (λ fault. is_start_fault fault ≡ true) }
 {
-    let (inherited, blank) = match found_by(rt, alloc, settings, shape, folder) {
+    let (carry_over, blank) = match found_by(rt, alloc, settings, shape, folder) {
         Ok(found) => found,
         Err(unopened) => return Err(put_fault(folder, unopened)),
     };
     match SharedParts::new(rt, alloc, *shape, false) {
-        Ok(shared) => Ok((inherited, blank, shared)),
+        Ok(shared) => Ok((carry_over, blank, shared)),
         Err(fault) => {
-            drop(inherited);
+            drop(carry_over);
             drop(blank);
             Err(fault)
         }
@@ -185,19 +201,51 @@ fn found_by<R: RelayRuntime>(
     settings: &Settings,
     shape: &Shape,
     folder: Option<SpoolFolder<'_>>,
-) -> Result<(Inherited, BlankTotals), Unopened> {
+) -> Result<(RunCarryOver, BlankTotals), Unopened> {
     let files = match open_files(rt, alloc, settings.destinations(), folder) {
         Ok(files) => files,
         Err(unopened) => return Err(unopened),
     };
-    let Ok(inherited) = Inherited::first(alloc, shape, files) else {
+    let Ok(carry_over) = RunCarryOver::first(alloc, shape, files) else {
         return Err(Unopened::no_memory(alloc));
     };
     match BlankTotals::new(alloc) {
-        Ok(blank) => Ok((inherited, blank)),
+        Ok(blank) => Ok((carry_over, blank)),
         Err(NoMemory) => {
-            drop(inherited);
+            drop(carry_over);
             Err(Unopened::no_memory(alloc))
         }
     }
+}
+
+impl RunCarryOver {
+    /// What the first run of a process begins with: the files of its destinations. Refuses if out of memory.
+    pub(crate) fn first(
+        alloc: Global,
+        shape: &Shape,
+        files: SpoolFiles,
+    ) -> Result<RunCarryOver, NoMemory> {
+        let SpoolFiles { dests, news } = files;
+        let mut slots = DestSlots::new(alloc, dests.len())?;
+        for (place, files) in dests.into_iter().enumerate() {
+            slots.put(place, DestCarryOver::with_files(files));
+        }
+        Ok(RunCarryOver {
+            notes: RunNotes::new(alloc, shape.receivers, shape.dests)?,
+            slots,
+            streams: no_streams(alloc, shape.receivers)?,
+            gone: GoneDests::with_room(alloc, 0)?,
+            logged: Vec::new(alloc),
+            news,
+        })
+    }
+}
+
+/// A place for the connections that each receiver hands over.
+fn no_streams(alloc: Global, receivers: usize) -> Result<Vec<Arc<HandedStreams>>, NoMemory> {
+    let mut streams = Vec::new(alloc);
+    for _ in 0..receivers {
+        add(&mut streams, HandedStreams::new(alloc)?)?;
+    }
+    Ok(streams)
 }

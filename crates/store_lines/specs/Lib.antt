@@ -1,1 +1,1 @@
-pub mod LeftDest
+pub mod DestCarryOver

@@ -1,4 +1,5 @@
 //! Connections that count the datapoints that they took.
+
 ghost use Rattle.std.specs.Prelude.{◌≡◌, IfErr};
 
 use mio_loops::{LeftWriter, ReadinessFault};

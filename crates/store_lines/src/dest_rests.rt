@@ -8,7 +8,7 @@ ghost use Rattle.dest_writer.specs.Writer.{bytes_left};
 ghost use Rattle.dest_writer.specs.declared.counting.Counting.{Counting};
 ghost use Rattle.handover.specs.Rest.{RestState, TookFirst, rest_text, left_text, without_connection};
 
-use crate::left_dest::counts_of;
+use crate::dest_carry_over::counts_of;
 use dest_writer::GatherBuf;
 use handover::{Rest, RestConnection, RestTurn};
 use run_state::RestNotes;

@@ -1,7 +1,6 @@
 //! The destinations of a run that may be diverted to files while it goes on.
 
-use crate::dest_slots::DestSlots;
-use crate::left_dest::LeftDest;
+use crate::dest_carry_over::{DestCarryOver, DestSlots};
 use relay_base::{DestId, NoMemory, add};
 use senders::WakeGate;
 use spool::{Intake, SpoolNotes};
@@ -50,7 +49,7 @@ impl Diversions {
 }
 
 /// Begins with the intake of a destination, of which this is left.
-fn begin_one(slot: &mut Option<Intake>, left: &LeftDest, notes: &SpoolNotes) {
+fn begin_one(slot: &mut Option<Intake>, left: &DestCarryOver, notes: &SpoolNotes) {
     if !left.has_names() {
         let error = io::Error::from_raw_os_error(NAME_TOO_LONG);
         notes.note_failed(&error);

@@ -5,9 +5,9 @@ ghost use Rattle.std.specs.Prelude.{◌≡◌, IfErr};
 use crate::diversions::{DivertTo, QueueLevels};
 use crate::divert_sink::{DivertSink, IntakeSink};
 use crate::sender_places::Share;
-use crate::spool_orders::SpoolOrders;
 use mio_loops::{LeftWriter, ReadinessFault};
 use relay_base::{DestId, MOST_DESTINATIONS};
+use run_state::Signals;
 use senders::{Connect, KeptSocket, copy_list};
 use spool::Intake;
 use std::sync::Wait;
@@ -45,20 +45,20 @@ pub(crate) struct DivertConnector<'n, 's, N, R, Q> {
     levels: Q,
     to: Option<DivertTo<'n>>,
     share: Share<'n>,
-    orders: SpoolOrders<'s>,
+    signals: &'s Signals,
     given: [Given; MOST_DESTINATIONS],
     ready: [DestId; MOST_DESTINATIONS],
 }
 
 impl<'n, 's, N: Connect, R: Wait + Copy + Drop, Q: QueueLevels> DivertConnector<'n, 's, N, R, Q> {
-    /// Connects through `connector` to a sender's share, and diverts by this, if it diverts.
+    /// Connects through `connector` to a sender's share, and diverts by this, if it diverts, until these signals end the run.
     pub(crate) fn new(
         connector: N,
         rt: R,
         levels: Q,
         to: Option<DivertTo<'n>>,
         share: Share<'n>,
-        orders: SpoolOrders<'s>,
+        signals: &'s Signals,
     ) -> DivertConnector<'n, 's, N, R, Q> {
         DivertConnector {
             connector,
@@ -66,7 +66,7 @@ impl<'n, 's, N: Connect, R: Wait + Copy + Drop, Q: QueueLevels> DivertConnector<
             levels,
             to,
             share,
-            orders,
+            signals,
             given: [Given::Nothing; MOST_DESTINATIONS],
             ready: [DestId(0); MOST_DESTINATIONS],
         }
@@ -105,7 +105,7 @@ impl<'n, 's, N: Connect, R: Wait + Copy + Drop, Q: QueueLevels> DivertConnector<
 
     /// Whether the last connection of a destination is its intake: the relay is about to end.
     fn is_ending(&self, dest: DestId) -> bool {
-        self.orders.is_spooled(dest)
+        self.signals.is_spooled(dest)
     }
 
     /// The connection to the store of a destination that is not diverted, if there is one.
@@ -261,7 +261,7 @@ impl<'n, 's, N: Connect, R: Wait + Copy + Drop, Q: QueueLevels> DivertConnector<
 
     /// Whether the connection of a destination to its store is given up.
     fn is_given_up(&self, dest: DestId, intake: &Intake) -> bool {
-        if self.orders.is_handing() {
+        if self.signals.is_handing() {
             return false;
         }
         self.is_ending(dest) || intake.is_blocked() && self.levels.is_filled(dest, LIVE_EIGHTHS)

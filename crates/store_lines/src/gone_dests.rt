@@ -1,7 +1,6 @@
 //! The destinations that are gone.
 
-use crate::dest_slots::DestSlots;
-use crate::left_dest::LeftDest;
+use crate::dest_carry_over::{DestCarryOver, DestSlots};
 use conf_text::Dest;
 use config_changes::place_of;
 use log_lines::DestNotes;
@@ -86,7 +85,7 @@ impl GoneDests {
     }
 
     /// Adds one, for which there is room, with what is left for it.
-    pub fn add(&mut self, parting: PartingDest, left: LeftDest) {
+    pub fn add(&mut self, parting: PartingDest, left: DestCarryOver) {
         let PartingDest { dest, shown, until } = parting;
         let (queued, in_hand) = left.counts();
         let rest = RestNotes::new(0);
@@ -158,9 +157,9 @@ impl GoneDests {
     }
 
     /// Takes what is left for the destination of a place; nothing if its end is known, since its file has that.
-    pub fn take_unless_over(&self, place: usize) -> LeftDest {
+    pub fn take_unless_over(&self, place: usize) -> DestCarryOver {
         if self.has_ended(place) {
-            LeftDest::none()
+            DestCarryOver::none()
         } else {
             self.slots.take(place)
         }

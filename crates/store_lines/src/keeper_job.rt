@@ -1,15 +1,14 @@
 //! The work of the thread that keeps the files of a run that diverts destinations.
 
+use crate::dest_carry_over::DestCarryOver;
 use crate::diversions::Diversions;
 use crate::keeper::{Keeper, KeeperRoom, KeptDest};
-use crate::left_dest::LeftDest;
 use crate::sender_places::Share;
 use crate::sender_spool::SenderSpool;
 use crate::spool_connector::SpoolConnector;
-use crate::spool_orders::SpoolOrders;
 use mio_loops::{SystemTimes, TimeSource};
 use relay_base::{DestId, NoMemory, add};
-use run_state::{BeginNote, DiskUser, EndOrders, Signals, ThreadWork};
+use run_state::{BeginNote, DiskUser, Signals, ThreadWork};
 use senders::{Connect, HalfClose, Lookup, StoreConnector, StoreStream, WakeGate};
 use spool::{KeptLines, SpoolBound, SpoolDisk, SpoolNotes};
 use std::alloc::{AllocError, Global};
@@ -82,11 +81,11 @@ impl<'n> KeeperPlaces<'n> {
     fn take_left<R: Net + Drop, L: Lookup + Drop>(
         &mut self,
         place: usize,
-        left: LeftDest,
+        left: DestCarryOver,
         connector: &mut StoreConnector<'n, R, L>,
         millis: u64,
     ) {
-        let LeftDest {
+        let DestCarryOver {
             rest,
             later,
             files,
@@ -121,8 +120,6 @@ pub struct KeeperJob<'x, R: Wait + SpoolDisk + Drop> {
     pub notes: &'x [SpoolNotes],
     /// What wakes the senders.
     pub gate: &'x WakeGate,
-    /// The orders of the run, which the keeper does not follow.
-    pub orders: &'x EndOrders,
     /// How much the files may have.
     pub bound: SpoolBound,
     /// How many bytes they have.
@@ -148,7 +145,6 @@ impl<'x, R: Wait + Clock + Net + SpoolDisk + Copy + Drop> ThreadWork<R, ()> for 
             diversions,
             notes,
             gate,
-            orders,
             bound,
             used: all_used,
             limit,
@@ -157,8 +153,10 @@ impl<'x, R: Wait + Clock + Net + SpoolDisk + Copy + Drop> ThreadWork<R, ()> for 
         let times = SystemTimes::since(rt, began);
         places.take_files(rt, &share, &mut connector, times.millis());
         let KeeperPlaces { spool, dests, used } = places;
-        let orders = SpoolOrders::of(signals, orders, DiskUser::Keeper);
-        let connector = SpoolConnector::new(connector, *rt, spool, &share, orders).without_files();
+        let user = DiskUser::Keeper;
+        let connector = SpoolConnector::new(
+            connector, *rt, spool, &share, signals, user,
+        ).without_files();
         let mut keeper = Keeper {
             connector,
             disk: *rt,
@@ -184,7 +182,7 @@ impl<'x, R: Wait + Clock + Net + SpoolDisk + Copy + Drop> ThreadWork<R, ()> for 
     }
 }
 
-/// Keeps and sends files until the senders have ended. While it is to do nothing it makes no call to the disk.
+/// Keeps and sends files until the senders have ended. While it is to do nothing it does not use the disk.
 fn keep_until_stopped<'n, 's, R: Wait + Clock + SpoolDisk + Copy + Drop, N: Connect + Drop>(
     rt: &R,
     keeper: &mut Keeper<'n, 's, N, R>,

@@ -7,39 +7,33 @@
 //! In a run that diverts destinations ([`Diversions`]) a sender writes to an intake while a store is away, and [`KeeperJob`] keeps
 //! and sends the files.
 //!
-//! `specs/LeftDest.antt` says what is left for a destination ([`LeftDest`]).
+//! `specs/DestCarryOver.antt` says what the carry-over of a destination is ([`DestCarryOver`]).
 #![tactic(auto)]
 
-mod carry_over;
 mod counted_connector;
+mod dest_carry_over;
 mod dest_rests;
-mod dest_slots;
 mod diversions;
 mod divert_connector;
 mod divert_sink;
+mod earlier_lines;
 mod file_end;
-mod first_lines;
 mod gone_dests;
 mod keeper;
 mod keeper_job;
-mod left_dest;
 mod line_sender;
 mod parting_job;
 mod rest_connector;
-mod rest_files;
-mod sender_files;
 mod sender_places;
 mod sender_spool;
 mod spool_connector;
 mod spool_left;
-mod spool_orders;
 mod spooled_dest;
 
-pub use dest_slots::DestSlots;
+pub use dest_carry_over::{DestCarryOver, DestSlots, counts_of};
 pub use diversions::{Diversions, DivertTo, QueueLevels};
 pub use gone_dests::{GoneDests, PartingDest};
 pub use keeper_job::{KeeperJob, KeeperPlaces};
-pub use left_dest::{LeftDest, counts_of};
 pub use line_sender::LineSender;
 pub use parting_job::PartingJob;
 pub use sender_places::{SenderPlaces, Share};

@@ -7,14 +7,13 @@ ghost use Rattle.senders.specs.Record.{SenderEnds, EndsFor};
 use crate::counted_connector::CountedConnector;
 use crate::diversions::{DivertTo, QueueLevels};
 use crate::divert_connector::DivertConnector;
-use crate::first_lines::FirstLines;
-use crate::rest_connector::RestConnector;
+use crate::rest_connector::{RestConnector, SenderRests};
 use crate::sender_places::{SenderPlaces, Share};
-use crate::spool_connector::SpoolConnector;
-use crate::spool_orders::SpoolOrders;
+use crate::sender_spool::SenderSpool;
+use crate::spool_connector::{SpoolConnector, SpoolSink};
 use mio_loops::TimeSource;
 use queue_records::Supply;
-use run_state::{BeginNote, DiskUser, EndOrders, EndState, Signals};
+use run_state::{BeginNote, DiskUser, EndState, Signals};
 use senders::{BatchSender, Connect, HalfClose, SenderRecord, StoreConnector, send_batches};
 use spool::SpoolDisk;
 use std::alloc::Global;
@@ -34,8 +33,6 @@ pub struct LineSender<'x, R: Wait + SpoolDisk + Drop, Q> {
     pub share: Share<'x>,
     /// The greatest number of datapoints in a batch.
     pub limit: usize,
-    /// They say which destinations' last connections are files.
-    pub orders: &'x EndOrders,
     /// What it diverts destinations by, if it does, and how full their queues are.
     pub divert: Option<DivertTo<'x>>,
     /// The queues.
@@ -74,27 +71,38 @@ impl<'x, R: Wait + Clock + Net + SpoolDisk + Copy + Drop, Q: QueueLevels + Drop>
             mut places,
             share,
             limit,
-            orders,
             divert,
             levels,
             end,
         } = self;
-        let orders = SpoolOrders::of(signals, orders, DiskUser::Sender(share.sender));
         let kept = places.take_lefts(rt, &share, &mut connector, divert, times.millis());
         let connector = DivertConnector::new(
-            connector, *rt, levels, divert, share, orders,
+            connector, *rt, levels, divert, share, signals,
         ).with_kept(&kept);
         let SenderPlaces { spool, rests } = places;
         let first = FirstLines {
             connector,
             spool,
             rests,
+            user: DiskUser::Sender(share.sender),
             share,
-            orders,
+            signals,
         };
         let own = OwnLines { supply, limit, end };
         send_own(rt, alloc, first, own, times)
     }
+}
+
+/// What connects to a sender's destinations, and what is left for each: files, and rests; the signals of the run, and who uses
+/// the files.
+#[derive(Drop)]
+pub(crate) struct FirstLines<'n, 's, N: Connect, D: SpoolDisk + Drop> {
+    pub(crate) connector: N,
+    pub(crate) spool: SenderSpool<'n, N::Sink>,
+    pub(crate) rests: SenderRests<'n, SpoolSink<'n, N::Sink, D>>,
+    pub(crate) share: Share<'n>,
+    pub(crate) signals: &'s Signals,
+    pub(crate) user: DiskUser,
 }
 
 /// A sender's own lines: those of a supply, so many datapoints in a batch at most, and where it is counted what the connections
@@ -135,11 +143,12 @@ where
         spool,
         rests,
         share,
-        orders,
+        signals,
+        user,
     } = first;
     let OwnLines { supply, limit, end } = own;
-    let (dests, signals) = (share.dests, orders.signals);
-    let connector = SpoolConnector::new(connector, *rt, spool, &share, orders);
+    let dests = share.dests;
+    let connector = SpoolConnector::new(connector, *rt, spool, &share, signals, user);
     let connector = RestConnector::new(alloc, connector, rests, share, signals);
     let connector = CountedConnector::new(connector, end, BeginNote::new(signals));
     let sender = BatchSender {

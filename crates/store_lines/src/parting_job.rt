@@ -2,16 +2,15 @@
 
 use crate::diversions::NoLevels;
 use crate::divert_connector::DivertConnector;
-use crate::first_lines::FirstLines;
 use crate::gone_dests::GoneDests;
+use crate::line_sender::FirstLines;
 use crate::rest_connector::RestConnector;
 use crate::sender_places::{SenderPlaces, Share};
 use crate::spool_connector::SpoolConnector;
 use crate::spool_left::{SpooledLeft, spool_left};
-use crate::spool_orders::SpoolOrders;
 use mio_loops::{SystemTimes, TimeSource};
 use relay_base::DestId;
-use run_state::{DiskTurns, DiskUser, EndOrders, GoneEnd, Signals, ThreadWork};
+use run_state::{DiskTurns, DiskUser, GoneEnd, Signals, ThreadWork};
 use senders::{Connect, HalfClose, StoreConnector};
 use spool::SpoolDisk;
 use std::alloc::{AllocError, Global};
@@ -26,7 +25,7 @@ const MOST_WAIT_MS: u64 = 10;
 /// How many milliseconds the stores have to read to their end once nothing more is sent.
 const LONGEST_END_MS: u64 = 1_000;
 
-/// The milliseconds between two looks whether it may make calls of the disk.
+/// The milliseconds between two looks whether it may use the disk.
 const TURN_MS: u64 = 1;
 
 /// A sender to destinations that are gone, as long as `--drain` allows: their connector, its places, and since when the
@@ -35,8 +34,6 @@ const TURN_MS: u64 = 1;
 pub struct PartingJob<'x, R: Wait + SpoolDisk + Drop> {
     /// The destinations.
     pub gone: &'x GoneDests,
-    /// Of the run's own destinations: none of these.
-    pub orders: &'x EndOrders,
     /// What connects to them.
     pub connector: StoreConnector<'x, R>,
     /// The places.
@@ -57,7 +54,6 @@ impl<'x, R: Wait + Clock + Net + SpoolDisk + Copy + Drop> ThreadWork<R, ()> for 
     fn work(self, rt: &R, alloc: Global, signals: &Signals) {
         let PartingJob {
             gone,
-            orders,
             mut connector,
             mut places,
             limit,
@@ -70,10 +66,9 @@ impl<'x, R: Wait + Clock + Net + SpoolDisk + Copy + Drop> ThreadWork<R, ()> for 
             senders: 1,
         };
         let times = SystemTimes::since(rt, began);
-        let orders = SpoolOrders::of(signals, orders, DiskUser::Parting);
         let kept = places.take_lefts(rt, &share, &mut connector, None, times.millis());
         let connector = DivertConnector::new(
-            connector, *rt, NoLevels, None, share, orders,
+            connector, *rt, NoLevels, None, share, signals,
         ).with_kept(&kept);
         let SenderPlaces { spool, rests } = places;
         let first = FirstLines {
@@ -81,10 +76,11 @@ impl<'x, R: Wait + Clock + Net + SpoolDisk + Copy + Drop> ThreadWork<R, ()> for 
             spool,
             rests,
             share,
-            orders,
+            signals,
+            user: DiskUser::Parting,
         };
         send_left(rt, alloc, first, gone, &times);
-        let mut turns = orders.disk_turns();
+        let mut turns = DiskTurns::new(signals, DiskUser::Parting);
         for place in 0..gone.dests.len() {
             if !wait_for_turn(rt, &mut turns, signals) {
                 break;
@@ -112,10 +108,12 @@ where
         spool,
         rests,
         share,
-        orders,
+        signals,
+        user,
     } = first;
-    let signals = orders.signals;
-    let connector = SpoolConnector::new(connector, *rt, spool, &share, orders).without_files();
+    let connector = SpoolConnector::new(
+        connector, *rt, spool, &share, signals, user,
+    ).without_files();
     let connector = RestConnector::new(alloc, connector, rests, share, signals);
     send_all(rt, connector, gone, times, signals);
 }
@@ -201,7 +199,7 @@ fn end_connections<R: Wait + Clock, N: Connect>(
     }
 }
 
-/// Waits until it may make calls of the disk. Returns whether it may: not if another run follows.
+/// Waits until it may use the disk. Returns whether it may: not if another run follows.
 fn wait_for_turn<R: Wait + Clock>(rt: &R, turns: &mut DiskTurns<'_>, signals: &Signals) -> bool {
     for _ in rt.forever() {
         if signals.is_handing() {

@@ -4,10 +4,9 @@ ghost use Rattle.std.specs.Prelude.{◌≡◌, IfErr};
 ghost use Rattle.dest_writer.specs.Writer.{bytes_left};
 ghost use Rattle.handover.specs.Rest.{left_text};
 
-use crate::carry_over::{CarryOver, connect_behind, wait_beside};
+use crate::dest_carry_over::socket_of;
 use crate::dest_rests::DestRests;
-use crate::left_dest::socket_of;
-use crate::rest_files::RestFiles;
+use crate::earlier_lines::{EarlierLines, connect_behind, wait_beside};
 use crate::sender_places::Share;
 use crate::spool_left::SpooledRest;
 use dest_queue::QueuedPoints;
@@ -133,7 +132,7 @@ impl<'n, W: Drop> SenderRests<'n, W> {
     }
 }
 
-impl<W: Write + Drop> CarryOver<W> for SenderRests<'_, W> {
+impl<W: Write + Drop> EarlierLines<W> for SenderRests<'_, W> {
     fn dests(&self) -> usize {
         self.dests.len()
     }
@@ -280,9 +279,22 @@ impl<'n, N: Connect> RestConnector<'n, N> {
     }
 }
 
+/// Who has the files of a sender's destinations.
+pub(crate) trait RestFiles {
+    /// Whether a rest of a destination may go to its file while the run goes on.
+    fn may_spool(&self, dest: DestId) -> bool;
+
+    /// Whether the disk may be used.
+    fn may_use_disk(&self) -> bool;
+
+    /// Writes a rest of a destination to its file, which is sent before anything else from now on. The connection that an earlier
+    /// file went out on is given up. Without files all of the rest is left.
+    fn spool_rest(&mut self, alloc: Global, dest: DestId, rest: Rest) -> SpooledRest;
+}
+
 impl<'n, N: Connect + RestFiles> RestConnector<'n, N> {
-    /// Writes the first rest of a destination to the file, once, if it is to go there. Returns whether that is done: not while no
-    /// call of the disk may be made.
+    /// Writes the first rest of a destination to the file, once, if it is to go there. Returns whether that is done: not while
+    /// the disk may not be used.
     fn spool_first(&mut self, dest: DestId) -> bool {
         if !self.connector.may_spool(dest) || !self.rests.is_for_file(dest.0) {
             return true;

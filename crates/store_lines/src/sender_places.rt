@@ -1,9 +1,8 @@
 //! What a sender has for its destinations beside their connections.
 
-use crate::dest_slots::DestSlots;
+use crate::dest_carry_over::{DestCarryOver, DestSlots};
 use crate::diversions::DivertTo;
 use crate::divert_sink::DivertSink;
-use crate::left_dest::LeftDest;
 use crate::rest_connector::SenderRests;
 use crate::sender_spool::SenderSpool;
 use crate::spool_connector::SpoolSink;
@@ -102,11 +101,11 @@ impl<'n, D: SpoolDisk + Wait + Net + Copy + Drop> SenderPlaces<'n, D> {
         &mut self,
         rt: &D,
         place: usize,
-        left: LeftDest,
+        left: DestCarryOver,
         sink: Option<DivertSink<'n, StoreStream<'n>, D>>,
     ) {
         let is_behind_file = left.is_behind_file();
-        let LeftDest {
+        let DestCarryOver {
             rest,
             later,
             mut files,

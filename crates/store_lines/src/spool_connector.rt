@@ -2,19 +2,17 @@
 
 ghost use Rattle.std.specs.Prelude.{◌≡◌, IfErr};
 
-use crate::carry_over::{connect_behind, wait_beside};
-use crate::dest_slots::DestSlots;
+use crate::dest_carry_over::{DestSlots, socket_of};
+use crate::earlier_lines::{EarlierLines, connect_behind, wait_beside};
 use crate::file_end::PartEnd;
-use crate::left_dest::socket_of;
-use crate::rest_files::RestFiles;
-use crate::sender_files::SenderFiles;
+use crate::rest_connector::RestFiles;
 use crate::sender_places::Share;
 use crate::sender_spool::{SenderSpool, half_close};
 use crate::spool_left::{SpooledRest, spool_rest};
-use crate::spool_orders::SpoolOrders;
 use handover::Rest;
 use mio_loops::{LeftWriter, ReadinessFault};
 use relay_base::{DestId, MOST_DESTINATIONS};
+use run_state::{DiskTurns, DiskUser, Signals};
 use senders::{Connect, HalfClose, KeptSocket};
 use spool::{DestSpool, FileSink, KeptLines, SpoolDisk};
 use std::alloc::Global;
@@ -31,7 +29,7 @@ pub(crate) struct SpoolConnector<'n, 's, N: Connect, D> {
     connector: N,
     files: SenderFiles<'n, 's, N::Sink, D>,
     slots: &'n DestSlots,
-    orders: SpoolOrders<'s>,
+    signals: &'s Signals,
     // Whether the last connections are files.
     may_spool: bool,
     ready: [DestId; MOST_DESTINATIONS],
@@ -41,19 +39,21 @@ impl<'n, 's, N: Connect, D: SpoolDisk + Copy + Drop> SpoolConnector<'n, 's, N, D
 where
     N::Sink: HalfClose,
 {
-    /// Connects through `connector` to a sender's share, and reaches the files by `disk`.
+    /// Connects through `connector` to a sender's share, and reaches the files by `disk`, as this user. These signals say which
+    /// destinations' last connections are files.
     pub(crate) fn new(
         connector: N,
         disk: D,
         spool: SenderSpool<'n, N::Sink>,
         share: &Share<'n>,
-        orders: SpoolOrders<'s>,
+        signals: &'s Signals,
+        user: DiskUser,
     ) -> SpoolConnector<'n, 's, N, D> {
         SpoolConnector {
             connector,
-            files: SenderFiles::new(spool, disk, orders.disk_turns()),
+            files: SenderFiles::new(spool, disk, DiskTurns::new(signals, user)),
             slots: share.slots,
-            orders,
+            signals,
             may_spool: true,
             ready: [DestId(0); MOST_DESTINATIONS],
         }
@@ -66,7 +66,7 @@ where
         connector
     }
 
-    /// Begins a turn. Returns whether it may make calls of the disk until the next one begins.
+    /// Begins a turn. Returns whether it may use the disk until the next one begins.
     pub(crate) fn begin_turn(&mut self) -> bool {
         self.files.begin_turn()
     }
@@ -140,7 +140,7 @@ where
 
     /// Whether the last connection of a destination is its new file.
     fn is_spooling(&self, dest: DestId) -> bool {
-        self.may_spool && self.orders.is_spooled(dest) && !self.files.spool.is_none()
+        self.may_spool && self.signals.is_spooled(dest) && !self.files.spool.is_none()
     }
 
     /// Leaves the files of a destination in their slot, with the socket that the earlier one goes out on if another run
@@ -153,16 +153,11 @@ where
             self.slots.leave_files(place, Some(files), None);
             return;
         };
-        let socket = socket_of(
-            &mut self.connector,
-            self.orders.signals,
-            DestId(place),
-            sink,
-        );
+        let socket = socket_of(&mut self.connector, self.signals, DestId(place), sink);
         let notes = self.files.spool.notes.get(place);
         match &socket {
             Some(_) => {}
-            None if self.orders.is_handing() => files.send_again(notes),
+            None if self.signals.is_handing() => files.send_again(notes),
             None => files.reconnect(notes),
         }
         self.slots.leave_files(place, Some(files), socket);
@@ -295,6 +290,96 @@ where
         );
         self.files.spool.begin(dest.0, spooled.files.take(), None);
         spooled
+    }
+}
+
+/// A sender's files, the disk that they are on, and the turns in which the sender may use it.
+#[derive(Drop)]
+struct SenderFiles<'n, 's, W, D> {
+    spool: SenderSpool<'n, W>,
+    disk: D,
+    turns: DiskTurns<'s>,
+    may_use_disk: bool,
+}
+
+impl<'n, 's, W: Drop, D: SpoolDisk> SenderFiles<'n, 's, W, D> {
+    /// These files, on this disk. Before the first turn the sender may use it.
+    fn new(spool: SenderSpool<'n, W>, disk: D, turns: DiskTurns<'s>) -> SenderFiles<'n, 's, W, D> {
+        SenderFiles {
+            spool,
+            disk,
+            turns,
+            may_use_disk: true,
+        }
+    }
+
+    /// Begins a turn. Returns whether the sender may use the disk until the next one begins.
+    fn begin_turn(&mut self) -> bool {
+        self.may_use_disk = self.turns.begin();
+        self.may_use_disk
+    }
+
+    /// Whether the sender may use the disk.
+    fn may_use_disk(&self) -> bool {
+        self.may_use_disk
+    }
+
+    /// The sender uses the disk no more.
+    fn end_turns(&mut self) {
+        self.turns.end();
+    }
+}
+
+impl<'n, 's, W: Write + HalfClose + Drop, D: SpoolDisk + Copy + Drop> SenderFiles<'n, 's, W, D> {
+    /// Whether a connection that took a part of the earlier file of a destination is not ended by its store yet, at these
+    /// milliseconds.
+    fn awaits_end(&mut self, place: usize, millis: u64) -> bool {
+        self.spool.awaits_end(&self.disk, place, millis)
+    }
+
+    /// The new file of a destination, once: it is its last connection.
+    fn last_file(&mut self, place: usize) -> Option<FileSink<'n, D>> {
+        let files = self.spool.take_files(&self.disk, place)?;
+        let notes = self.spool.notes.get(place);
+        Some(FileSink::new(self.disk, files, self.spool.limit(), notes))
+    }
+}
+
+impl<'n, 's, W: Write + HalfClose + Drop, D: SpoolDisk> EarlierLines<W>
+    for SenderFiles<'n, 's, W, D> {
+    fn dests(&self) -> usize {
+        self.spool.dests()
+    }
+
+    fn goes_on(&self) -> bool {
+        self.may_use_disk && self.spool.goes_on()
+    }
+
+    fn note_ready(&mut self, ready: &[DestId]) {
+        self.spool.note_ready(ready);
+    }
+
+    // A close that is not noted now shows at the next write.
+    fn note_closed(&mut self, place: usize) {
+        if self.may_use_disk {
+            self.spool.note_closed(&self.disk, place);
+        }
+    }
+
+    fn is_left(&self, place: usize) -> bool {
+        self.spool.is_behind(place)
+    }
+
+    fn is_open(&self, place: usize) -> bool {
+        self.spool.has_sink(place)
+    }
+
+    fn begin_connection(&mut self, place: usize, sink: W) {
+        self.spool.keep(place, sink);
+    }
+
+    fn send(&mut self, place: usize) -> Option<W> {
+        self.spool.send(&self.disk, place)
     }
 }
 

@@ -1,7 +1,6 @@
 //! What is left for a destination, once nothing more is sent to it.
 
-use crate::dest_slots::DestSlots;
-use crate::left_dest::{LeftDest, counts_of};
+use crate::dest_carry_over::{DestCarryOver, DestSlots, counts_of};
 use dest_writer::GatherBuf;
 use handover::{Rest, RestConnection, RestTurn};
 use run_state::GoneEnd;
@@ -22,11 +21,11 @@ pub(crate) struct SpooledLeft {
 pub(crate) fn spool_left<D: SpoolDisk + Drop>(
     disk: D,
     alloc: Global,
-    left: LeftDest,
+    left: DestCarryOver,
     limit: Option<u64>,
 ) -> SpooledLeft {
     let (queued, in_hand) = left.counts();
-    let LeftDest {
+    let DestCarryOver {
         rest,
         later,
         mut files,

@@ -2,7 +2,7 @@ use Rattle.std.proofs.Common.{◌≡◌, ℕ, List, [], ◌++◌, length, take, 
 use Rattle.std.proofs.Math.Seq.{take-length}
 use Rattle.line_text.specs.Print.{printed_lines}
 use Rattle.handover.specs.Rest.{left_text}
-use Rattle.store_lines.specs.LeftDest.{text_left}
+use Rattle.store_lines.specs.DestCarryOver.{text_left}
 use Rattle.store_lines.proofs.LeftLemmas.{text-added}
 use Rattle.relay_run.proofs.ended_run.add_to.Goals as goal
 

@@ -1,4 +1,4 @@
-//! What goes out to destinations before anything newer.
+//! Earlier lines, which go out to destinations before anything newer.
 
 ghost use Rattle.std.specs.Prelude.{◌≡◌, ◌≤◌, IfErr, IfOk};
 
@@ -8,11 +8,11 @@ use senders::{Connect, copy_list};
 
 /// What goes out to each of a sender's destinations before anything newer: the file of an earlier run, or the rest of an ended one.
 /// While something is left for a destination, its connections to the store are for that alone.
-pub(crate) trait CarryOver<W> {
+pub(crate) trait EarlierLines<W> {
     /// For how many destinations there is a place.
     fn dests(&self) -> usize;
 
-    /// Whether some of it goes on at once.
+    /// Whether some of them go on at once.
     fn goes_on(&self) -> bool;
 
     /// These destinations' connections are ready.
@@ -34,41 +34,41 @@ pub(crate) trait CarryOver<W> {
     fn send(&mut self, place: usize) -> Option<W>;
 }
 
-/// Waits by a connector; not at all if what is carried over goes on at once. Connections that have closed take no more of it.
+/// Waits by a connector; not at all if earlier lines go on at once. Connections that have closed take no more of them.
 /// Returns how many destinations are ready: the first ones in the list.
-pub(crate) fn wait_beside<N: Connect, C: CarryOver<N::Sink>>(
+pub(crate) fn wait_beside<N: Connect, L: EarlierLines<N::Sink>>(
     connector: &mut N,
-    carried: &mut C,
+    earlier: &mut L,
     ready: &mut [DestId; MOST_DESTINATIONS],
     millis: u64,
 ) -> Result<usize, ReadinessFault>
     ensures count { IfOk result (λ count. count ≤ MOST_DESTINATIONS) }
     ensures device { IfErr result (λ fault. fault ≡ ReadinessFault.Device) }
 {
-    let pause = if carried.goes_on() { 0 } else { millis };
+    let pause = if earlier.goes_on() { 0 } else { millis };
     let count = copy_list(connector.wait(pause)?, ready);
-    carried.note_ready(&ready[..count]);
-    for place in 0..carried.dests() {
+    earlier.note_ready(&ready[..count]);
+    for place in 0..earlier.dests() {
         if connector.has_closed(DestId(place)) {
-            carried.note_closed(place);
+            earlier.note_closed(place);
         }
     }
     Ok(count)
 }
 
-/// The connection of a destination, once nothing that is carried over is left for it: before that, the connection is for that.
-pub(crate) fn connect_behind<N: Connect, C: CarryOver<N::Sink>>(
+/// The connection of a destination, once no earlier lines are left for it: before that, the connection is for them.
+pub(crate) fn connect_behind<N: Connect, L: EarlierLines<N::Sink>>(
     connector: &mut N,
-    carried: &mut C,
+    earlier: &mut L,
     dest: DestId,
     millis: u64,
 ) -> Option<N::Sink> {
-    if !carried.is_left(dest.0) {
+    if !earlier.is_left(dest.0) {
         return connector.connect(dest, millis);
     }
-    if !carried.is_open(dest.0) {
+    if !earlier.is_open(dest.0) {
         let sink = connector.connect(dest, millis)?;
-        carried.begin_connection(dest.0, sink);
+        earlier.begin_connection(dest.0, sink);
     }
-    carried.send(dest.0)
+    earlier.send(dest.0)
 }

@@ -2,7 +2,7 @@ use Rattle.std.proofs.lemmas.Result.{IfOk-weaker, IfErr-weaker, on_ok_weaker}
 use Rattle.std.proofs.Common.{map}
 use Rattle.run_threads.proofs.ServedLemmas.{Served-whole}
 use Rattle.relay_run.proofs.RunEndings.{fails-unwritten, fails-served}
-use Rattle.relay_run.proofs.running.run_until_ended.Goals as goal
+use Rattle.relay_run.proofs.run_command.run_until_ended.Goals as goal
 
 -- it did not begin
 pub returns-in-Err-clause-err : goal.returns-in-Err-clause-err

@@ -1,6 +1,6 @@
 use Rattle.std.proofs.Common.{◌≡◌, map, drop}
 use Rattle.relay_run.specs.Running.{first_fault}
-use Rattle.relay_run.proofs.thread_end.first_fault.Given as goal
+use Rattle.relay_run.proofs.closing.first_fault.Given as goal
 
 -- those before have none
 abbrev pub invariant-loop-end : goal.invariant-loop-end

@@ -1,0 +1,208 @@
+//! What the first thread does at the end of a run: it has files keep what destinations that are away are not sent, answers commands
+//! until what it waits for is over, and has the log say the last refusals.
+
+ghost use Rattle.std.specs.Prelude.{◌≡◌};
+
+use crate::relay::Relay;
+use crate::reload_source::ReloadSource;
+use crate::report_source::ReportSource;
+use admin_port::AdminListener;
+use locked_queues::Set;
+use mio_loops::{SystemTimes, TimeSource};
+use receivers::ClosingWait;
+use relay_ports::FirstPorts;
+use run_state::{Drain, EndState, GoneDrain, Signals, SpoolWait, Unsent};
+use std::alloc::Global;
+use std::net::Net;
+use std::rt::Clock;
+use std::sync::Wait;
+use std::time::Duration;
+use store_lines::GoneDests;
+
+/// How many milliseconds a turn waits at most at the end of a run: so late is seen what it waits for.
+const END_PAUSE_MS: u64 = 1;
+
+/// The milliseconds between two looks at the sender to destinations that are gone.
+const LOOK_MS: u64 = 1;
+
+/// If files keep what is not sent, has the senders begin with the files of destinations that are not connected. So most of what
+/// waits for these is written while the ports are open.
+pub(crate) fn spool_away<B: Set>(relay: &Relay<B>) {
+    if relay.shape.is_spooled {
+        relay.state.stopper().spool_to(away_of(relay));
+        relay.gate.wake_all();
+    }
+}
+
+/// The destinations that are not connected, a bit each.
+fn away_of<B: Set>(relay: &Relay<B>) -> u64 {
+    let mut away: u64 = 0;
+    let mut bit: u64 = 1;
+    for notes in relay.noted().notes {
+        if !notes.status(0, true).is_up {
+            away |= bit;
+        }
+        bit = bit.wrapping_mul(2);
+    }
+    away
+}
+
+/// Answers commands until the senders have sent as much as they are to, and the files have the rest.
+pub(crate) fn answer_until_drained<R: Wait + Clock + Net, B: Set, F: ReloadSource>(
+    rt: &R,
+    alloc: Global,
+    listener: &mut AdminListener,
+    relay: &Relay<B>,
+    files: &F,
+    end: &EndState,
+) {
+    let millis = SystemTimes::since(rt, relay.began).millis();
+    let draining = DrainWait::begin(relay, end, millis);
+    answer_until_over(rt, alloc, listener, relay, files, draining);
+    if end.is_spooled() {
+        relay.state.stopper().begin_spooling();
+        relay.gate.wake_all();
+        let millis = SystemTimes::since(rt, relay.began).millis();
+        let writing = FilesWait::begin(relay, end, millis);
+        answer_until_over(rt, alloc, listener, relay, files, writing);
+    }
+}
+
+/// Answers commands until what a run waits for at its end is over.
+pub(crate) fn answer_until_over<
+    R: Wait + Clock + Net,
+    B: Set,
+    F: ReloadSource,
+    E: EndWait<R> + Drop,
+>(rt: &R, alloc: Global, listener: &mut AdminListener, relay: &Relay<B>, files: &F, wait: E) {
+    let mut wait = wait;
+    let mut watched = ReportSource::new(relay, files, true);
+    let times = SystemTimes::since(rt, relay.began);
+    for _ in rt.forever() {
+        let millis = times.millis();
+        if wait.is_over(rt, millis) {
+            return;
+        }
+        let _is_stopped = listener.take_turn(rt, alloc, &mut watched, millis, END_PAUSE_MS);
+        if !relay.state.signals().is_handing() {
+            refuse_reload(listener, millis);
+        }
+    }
+    unreachable!()
+}
+
+/// Refuses a reload, if a connection has asked for one: a relay that stops takes no new configuration.
+fn refuse_reload(listener: &mut AdminListener, millis: u64) {
+    if let Some(connection) = listener.next_reload() {
+        listener.refuse_reload(connection, millis);
+    }
+}
+
+/// Has the log say the rest of them: no more commands are answered.
+pub(crate) fn say_last_refusals<B: Set, R: Wait>(
+    rt: &R,
+    alloc: Global,
+    relay: &Relay<B>,
+    ports: &mut FirstPorts,
+) {
+    let refusals = ports.admin.refusals();
+    if let Some(line) = ports.said.last_line(alloc, refusals) {
+        relay.late_news.put(rt, line);
+    }
+}
+
+/// Something that a run waits for at its end.
+pub(crate) trait EndWait<R> {
+    /// Looks at these milliseconds. Returns whether it is over.
+    fn is_over(&mut self, rt: &R, millis: u64) -> bool;
+}
+
+impl<R> EndWait<R> for ClosingWait<'_> {
+    /// The receivers read what was sent to them, for half a second at most.
+    fn is_over(&mut self, _rt: &R, millis: u64) -> bool {
+        self.look(millis)
+    }
+}
+
+/// The senders send what is left, also to destinations that are gone.
+#[derive(Drop)]
+struct DrainWait<'x, B: Set> {
+    drain: Drain,
+    gone_drain: GoneDrain,
+    unsent: Unsent<'x, B>,
+    signals: &'x Signals,
+    gone: &'x GoneDests,
+}
+
+impl<'x, B: Set> DrainWait<'x, B> {
+    /// The drain of a relay with this end begins at these milliseconds.
+    fn begin(relay: &'x Relay<B>, end: &'x EndState, millis: u64) -> DrainWait<'x, B> {
+        DrainWait {
+            drain: Drain::new(millis, end.drain_seconds(), end.is_spooled()),
+            gone_drain: GoneDrain::new(millis, end.is_spooled()),
+            unsent: unsent_of(relay, end),
+            signals: relay.state.signals(),
+            gone: &relay.gone,
+        }
+    }
+}
+
+impl<R: Wait, B: Set> EndWait<R> for DrainWait<'_, B> {
+    fn is_over(&mut self, rt: &R, millis: u64) -> bool {
+        let is_over = self.drain.look(rt, &self.unsent, self.signals, millis);
+        let are_waited_for = self.gone.are_waited_for(&mut self.gone_drain, millis);
+        is_over && !are_waited_for
+    }
+}
+
+/// The sender to destinations that are gone ends, since another run follows.
+#[derive(Drop)]
+pub(crate) struct PartingWait<'x> {
+    gone: &'x GoneDests,
+}
+
+impl<'x> PartingWait<'x> {
+    /// The sender to these destinations ends.
+    pub(crate) fn new(gone: &'x GoneDests) -> PartingWait<'x> {
+        PartingWait { gone }
+    }
+}
+
+impl<R: Clock> EndWait<R> for PartingWait<'_> {
+    /// It sleeps itself: the admin port does not wait while another reload is asked for, which the next run answers.
+    fn is_over(&mut self, rt: &R, _millis: u64) -> bool {
+        if self.gone.is_sender_over() {
+            return true;
+        }
+        rt.sleep(Duration::from_millis(LOOK_MS));
+        false
+    }
+}
+
+/// Files get what is not sent.
+#[derive(Drop)]
+struct FilesWait<'x, B: Set> {
+    wait: SpoolWait,
+    unsent: Unsent<'x, B>,
+}
+
+impl<'x, B: Set> FilesWait<'x, B> {
+    /// The files of a relay with this end begin at these milliseconds.
+    fn begin(relay: &'x Relay<B>, end: &'x EndState, millis: u64) -> FilesWait<'x, B> {
+        FilesWait {
+            wait: SpoolWait::new(millis),
+            unsent: unsent_of(relay, end),
+        }
+    }
+}
+
+impl<R: Wait, B: Set> EndWait<R> for FilesWait<'_, B> {
+    fn is_over(&mut self, rt: &R, millis: u64) -> bool {
+        self.wait.look(rt, &self.unsent, millis)
+    }
+}
+
+/// What remains to be sent by a relay with this end.
+fn unsent_of<'x, B: Set>(relay: &'x Relay<B>, end: &'x EndState) -> Unsent<'x, B> {
+    Unsent::new(&relay.queues, relay.noted(), end)
+}
