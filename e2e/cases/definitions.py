@@ -1,6 +1,7 @@
 """The index of definitions: each row leads from a rule to a definition, a contract, a test that can fail by itself, and a
 wrong edit."""
 
+import functools
 import pathlib
 import re
 import unittest
@@ -18,6 +19,23 @@ PLACE = re.compile(r"(?:`(?P<crate>\w+)`'s )?`(?P<file>[\w/]+\.\w+)`: (?P<names>
 EDIT = re.compile(r"`(?P<name>\w+)`(?: of `(?P<crate>\w+)`)?")
 NO_TEST, NO_EDIT = "none: a law", "none"
 EDIT_FOLDERS = ("must-fail", "more-edits")
+CITED = re.compile(r"\buse Rattle\.(\w+)\.specs\.([\w.]+)")
+OWED = {  # the wrong bodies that break a promise, which the gate tries whatever that costs
+    "common_orders": "histories_one_after_the_other",
+    "dest_queue": "drop_oldest_when_full",
+    "dest_writer": "repeat_finished_line resume_in_mid_line",
+    "hash_ring": "skips_equal_nodes_alone walk_starts_above_key",
+    "line_text": "fraction_keeps_last_zeros moment_of_first_byte rest_read_as_line value_is_cut",
+    "locked_queues": "door_without_the_lock lock_stays_at_opening_state",
+    "mio_loops": "bytes_read_are_dropped idle_destination_left_out no_again_list",
+    "name_table": "route_of_another_name",
+    "numbered_memo": "stale_memo_entry",
+    "pass_lines": "copies_input_to_output rest_read_as_line",
+    "queue_records": "door_offers_another_point drop_answered_queued settles_without_comparing_points",
+    "relay_core": "allowed_event_refused cap_shared_by_queues full_queue_skips_other_destinations never_offers",
+    "relay_rules": "default_rule_tried_in_place relay_pattern_observes_case",
+    "router": "route_of_another_name",
+}
 WORKED = "e2e/fixtures/worked_rows.py"
 
 
@@ -57,10 +75,14 @@ def crate_of(row):
     return re.fullmatch(r"\[`(\w+)`\]\(\.\./crates/\1\)", row.crate)[1]
 
 
+def source_text(file):
+    """The text of a source; of one that is not there nothing."""
+    return file.read_text(encoding="utf-8") if file.is_file() else ""
+
+
 def has(file, kind, name):
     """Whether a file has something of a kind under a name, of which the last part counts."""
-    text = file.read_text(encoding="utf-8") if file.is_file() else ""
-    return re.search(kind + re.escape(name.split("::")[-1]) + r"\b", text) is not None
+    return re.search(kind + re.escape(name.split("::")[-1]) + r"\b", source_text(file)) is not None
 
 
 def places(row, cell):
@@ -78,7 +100,7 @@ def is_test(file, name):
     if file == WORKED:
         return name in worked_rows.ROWS
     path = (ROOT if file.startswith("e2e/") else CRATES) / file
-    text = path.read_text(encoding="utf-8") if path.is_file() else ""
+    text = source_text(path)
     if file.startswith("e2e/cases/"):
         return re.search(rf"^    def {name}\(self\)" if name.startswith("test_") else rf"^class {name}\(", text, re.M) is not None
     if file.startswith("e2e/"):
@@ -92,6 +114,33 @@ def lacking(row, cell, kind):
     """What a cell names that its file does not have."""
     return [f"{name} in {crate}/{file}" for crate, file, names in places(row, cell) for name in names
             if not has(CRATES / crate / file, kind, name)]
+
+
+@functools.cache
+def definitions_of(file):
+    """The files of definitions that a file cites by itself."""
+    found = set()
+    for crate, path in CITED.findall(source_text(file)):
+        parts = path.strip(".").split(".")
+        files = [CRATES.joinpath(crate, "specs", *parts[:count]).with_suffix(".antt") for count in range(len(parts), 0, -1)]
+        found.update([it for it in files if it.is_file()][:1])
+    return frozenset(found)
+
+
+def all_definitions_of(files):
+    """Those that files cite, and those that these cite in turn."""
+    found, left = set(files), list(files)
+    while left:
+        new = definitions_of(left.pop()) - found
+        found |= new
+        left += new
+    return found
+
+
+def uncited(row):
+    """The definitions of a row to which its contracts do not lead."""
+    found = all_definitions_of([CRATES / crate / file for crate, file, _ in places(row, row.contract)])
+    return [file for crate, file, _ in places(row, row.definition) if CRATES / crate / file not in found]
 
 
 def lacking_tests(row):
@@ -127,6 +176,22 @@ def lacking_edits(row):
     return [] if any(file.is_file() for file in files) else [row.edit]
 
 
+def misfits(edit, read):
+    """What a wrong edit is to replace that does not stand once in its file, as the replacements before it have left that."""
+    file, old, texts = None, None, {}
+    for line in edit.read_text(encoding="utf-8").splitlines():
+        kind, _, words = line.partition(": ")
+        if kind == "file":
+            file = words
+            texts.setdefault(file, read(edit.parents[1] / file))
+        elif kind == "old":
+            old = words
+            if texts[file].count(old) != 1:
+                yield old
+        else:
+            texts[file] = texts[file].replace(old, words)
+
+
 def sources():
     """The text of each source and each definition of the crates."""
     return [file.read_text(encoding="utf-8") for folder in ("src", "specs") for file in sorted(CRATES.glob(f"*/{folder}/**/*.*t"))]
@@ -142,6 +207,28 @@ def is_there(name, texts):
                           rf"|codes \"{re.escape(last)}", re.M)
     owner = re.compile(rf"\b(?:impl\b.* |struct |enum |trait ){re.escape(first)}\b" if first != last else "")
     return any(owner.search(text) and declared.search(text) for text in texts)
+
+
+class Edits(unittest.TestCase):
+    """The wrong edits of all crates."""
+
+    def test_each_fits_the_sources(self):
+        """An edit of a text that is no longer there would show nothing."""
+        edits = [edit for kind in EDIT_FOLDERS for edit in sorted(CRATES.glob(f"*/{kind}/*.edit"))]
+        self.assertGreater(len(edits), 700)
+        for edit in edits:
+            self.assertEqual(list(misfits(edit, source_text)), [], edit)
+
+    def test_the_gate_tries_what_breaks_a_promise(self):
+        for crate, names in OWED.items():
+            tried = {edit.stem for edit in (CRATES / crate / "must-fail").glob("*.edit")}
+            self.assertEqual(set(names.split()) - tried, set(), crate)
+
+    def test_an_edit_that_does_not_fit(self):
+        """It is seen where its text is not there, or stands twice."""
+        edit, *_ = sorted((CRATES / "line_text" / "must-fail").glob("*.edit"))
+        self.assertNotEqual(list(misfits(edit, lambda _: "")), [])
+        self.assertNotEqual(list(misfits(edit, lambda file: source_text(file) * 2)), [])
 
 
 class Definitions(unittest.TestCase):
@@ -162,6 +249,9 @@ class Definitions(unittest.TestCase):
 
     def test_each_contract_is_there(self):
         self.check(lambda row: lacking(row, row.contract, r"\b(?:fn|struct|trait) "))
+
+    def test_each_contract_leads_to_its_definition(self):
+        self.check(uncited)
 
     def test_each_test_can_fail(self):
         self.check(lacking_tests)

@@ -10,6 +10,11 @@ from fixtures.program import TOP
 LINES = b"a 1 -1\nb 2 3\n"
 
 
+def commands():
+    """The commands that the help shows, but for `help`."""
+    return sorted(set(re.findall(r"(?m)^  ([a-z]+)  ", run(("-h",)).out.decode())) - {"help"})
+
+
 class Words(Suite):
     """The cases that the classes below share."""
 
@@ -251,6 +256,7 @@ class Numbers(Words):
 
     def test_a_number_beside_the_range_of_the_help_is_refused_with_it(self):
         """Those at its ends are not."""
+        self.assertEqual(sorted(self.NEEDED), commands())
         found = set()
         for command in self.NEEDED:
             for name, value, least, most in self.ranges(command):
@@ -265,7 +271,7 @@ class Numbers(Words):
         self.assertGreaterEqual(len(found), 11)
 
     def test_the_ends_of_a_range_are_taken(self):
-        for command in ("pass", "check", "run"):
+        for command in self.NEEDED:
             for name, _, least, most in self.ranges(command):
                 if name in ("admin", "status"):
                     continue
@@ -307,7 +313,8 @@ class Help(Words):
 
     def test_the_long_help_has_examples_and_statuses(self):
         """It has all that the short one has of options, and each example is taken: it gets as far as its files."""
-        for command in ("pass", "check", "route", "replay", "run", "report", "stop"):
+        self.assertGreater(len(commands()), 9)
+        for command in commands():
             short_help, long_help = (run((command, flag)).out.decode() for flag in ("-h", "--help"))
             for option in set(re.findall(r"--[a-z]+", short_help)):
                 self.assertIn(option, long_help)
