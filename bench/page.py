@@ -36,7 +36,7 @@ def ratios(ours, other):
 def cells(text, ours, row):
     """A row of the page."""
     middle, least, most = (f"{int(row[column]):,}" for column in ("datapoints a second", "least", "most"))
-    return [text, row["relay"], *ratios(ours, row), middle, f"{least} to {most}", row["processor seconds a million"],
+    return [text, row["relay"], *ratios(ours, row), middle, f"{least}–{most}", row["processor seconds a million"],
             row["megabytes"], f"{row['lost %']} %" if float(row["lost %"]) else "none"]
 
 
@@ -44,7 +44,7 @@ def main():
     """Prints."""
     if len(sys.argv) != 2:
         sys.exit(__doc__.strip())
-    print("| Scene | Relay | Times | Processor | Datapoints a second | Least to most | Processor seconds a million | MB | Lost |")
+    print("| Scene | Relay | Times | Processor | Datapoints a second | Least–most | Processor seconds a million | MB | Lost |")
     print("|---|---|---|---|---|---|---|---|---|")
     for scene, rows in scenes_of(sys.argv[1]).items():
         ours = rows.pop(OURS)
