@@ -15,6 +15,7 @@ mod input_log;
 mod leaving_loop;
 mod left_writer;
 mod log_entry;
+mod logged_writer;
 mod offers;
 mod outgoing;
 pub mod read_laws;

@@ -9,6 +9,7 @@ ghost use Rattle.mio_loops.specs.WriteAnswers.{is_blocked, is_again};
 ghost use Rattle.queue_records.specs.Takes.{IsHandedBy};
 
 use crate::left_writer::{LeftBatch, LeftWriter};
+use crate::logged_writer::LoggedWriter;
 use crate::write_log::{WriteLog, WriterEntry};
 use crate::write_serve::{is_failed, serve_connection};
 use dest_queue::Hand;
@@ -24,14 +25,10 @@ use std::marker::Model;
 /// Clauses see it as these, with the limit of a batch and how the last drive ended.
 #[derive(Drop)]
 pub(crate) struct Outgoing<W> {
-    limit: usize,
-    writer: Writer,
+    logged: LoggedWriter,
     sink: Option<Counting<W>>,
-    log: WriteLog,
     // How the last drive of the connection ended; nothing if it was not driven yet.
     last: Option<Driven>,
-    // Lent to the supply for a batch, and empty before and after.
-    hand: Hand,
 }
 
 impl<W> Model for Outgoing<W> {
@@ -42,15 +39,15 @@ impl<W> Model for Outgoing<W> {
     ghost Value = { OutgoingState W };
 
     ghost view = { λ o. record {
-      limit = o.limit;
-      writer = o.writer.writer;
+      limit = o.logged.limit;
+      writer = o.logged.writer.writer;
       sink = o.sink;
-      log = o.log;
+      log = o.logged.log;
       last = o.last;
     } };
 
-    ghost invariant = { λ o. IsSoundOutgoing o.limit o.writer o.hand
-        × (o.writer.writer.up ≡ is_some o.sink) };
+    ghost invariant = { λ o. IsSoundOutgoing o.logged.limit o.logged.writer o.logged.hand
+        × (o.logged.writer.writer.up ≡ is_some o.sink) };
 }
 
 impl<W: Write + Drop> Outgoing<W> {
@@ -68,12 +65,14 @@ impl<W: Write + Drop> Outgoing<W> {
         let hand = Hand::new(alloc, limit)?;
         let writer = Writer::new(alloc, limit)?;
         Ok(Outgoing {
-            limit,
-            writer,
+            logged: LoggedWriter {
+                limit,
+                writer,
+                log,
+                hand,
+            },
             sink: None,
-            log,
             last: None,
-            hand,
         })
     }
 
@@ -87,10 +86,10 @@ impl<W: Write + Drop> Outgoing<W> {
             × (self.old.writer.up ≡ true)) }
         ensures down { OnOk result (self.old.writer.up ≡ false) }
     {
-        let Ok(()) = self.writer.up() else {
+        let Ok(()) = self.logged.writer.up() else {
             return Err(sink);
         };
-        self.log.add(WriterEntry::Up);
+        self.logged.log.add(WriterEntry::Up);
         self.sink = Some(Counting::new(sink));
         self.last = None;
         Ok(())
@@ -100,10 +99,10 @@ impl<W: Write + Drop> Outgoing<W> {
     pub(crate) fn detach(&mut self)
         ensures { self.new ≡ detached self.old }
     {
-        let Ok(()) = self.writer.down() else {
+        let Ok(()) = self.logged.writer.down() else {
             return;
         };
-        self.log.add(WriterEntry::Down);
+        self.logged.log.add(WriterEntry::Down);
         self.sink = None;
         self.last = None;
     }
@@ -112,14 +111,14 @@ impl<W: Write + Drop> Outgoing<W> {
     pub(crate) fn is_up(&self) -> bool
         ensures { result ≡ self.now.writer.up }
     {
-        self.writer.is_up()
+        self.logged.writer.is_up()
     }
 
     /// The log of the writer.
     pub(crate) fn log(&self) -> &WriteLog
         ensures { result.now ≡ self.now.log }
     {
-        &self.log
+        &self.logged.log
     }
 
     /// The log of the writer, and what is left of the destination.
@@ -128,13 +127,16 @@ impl<W: Write + Drop> Outgoing<W> {
         ensures left { IsLeftOf self result.1 }
     {
         let Outgoing {
+            logged,
+            sink,
+            last: _,
+        } = self;
+        let LoggedWriter {
             limit,
             writer,
-            sink,
             log,
-            last: _,
             hand,
-        } = self;
+        } = logged;
         let sink = match sink {
             Some(sink) => Some(sink.into_stream()),
             None => None,
@@ -182,16 +184,7 @@ impl<W: Write + Drop> Outgoing<W> {
         let Some(sink) = &mut self.sink else {
             return None;
         };
-        let driven = serve_connection(
-            dest,
-            self.limit,
-            &mut self.writer,
-            sink,
-            &mut self.log,
-            &mut self.hand,
-            gathered,
-            supply,
-        );
+        let driven = serve_connection(dest, &mut self.logged, sink, gathered, supply);
         self.last = Some(driven);
         if is_failed(driven) {
             self.sink = None;

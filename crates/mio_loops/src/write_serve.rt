@@ -4,9 +4,11 @@ ghost use Rattle.line_text.specs.Datapoint.{Datapoint};
 ghost use Rattle.dest_writer.specs.Counting.{stream_of, counts_of};
 ghost use Rattle.dest_writer.specs.Writer.{left};
 ghost use Rattle.queue_records.specs.Takes.{TakesMade, IsHandedBy};
+ghost use Rattle.mio_loops.specs.OutgoingState.{IsSoundOutgoing};
 ghost use Rattle.mio_loops.specs.WriterSteps.{DownStep, LeadTo, HoldsOnlyUnwritten};
 ghost use Rattle.mio_loops.specs.WriteServe.{Moved, IsHanded, IsServed, EndsAs, steps_of_batch, steps_of_write, is_failed};
 
+use crate::logged_writer::LoggedWriter;
 use crate::write_log::{WriteLog, WriterEntry};
 use dest_queue::Hand;
 use dest_writer::{Counting, DriveReport, Driven, GatherBuf, Writer};
@@ -18,43 +20,39 @@ use std::io::Write;
 /// The log keeps each step, while there is room.
 pub(crate) fn serve_connection<W: Write, S: Supply>(
     dest: DestId,
-    limit: usize,
-    writer: &mut Writer,
+    logged: &mut LoggedWriter,
     sink: &mut Counting<W>,
-    log: &mut WriteLog,
-    hand: &mut Hand,
     gathered: &mut GatherBuf,
     supply: &mut S,
 ) -> Driven
-    requires up { writer.old.writer.up ≡ true }
-    requires unwritten { HoldsOnlyUnwritten writer.old.writer }
+    requires up { logged.old.writer.writer.up ≡ true }
     requires owned { S.is_owned supply.old dest.0 ≡ true }
-    requires limit { (1 ≤ limit) × (limit ≤ LARGEST_MESSAGE) }
-    requires fits { writer.old.limit ≡ limit }
-    requires empty { hand.old.points ≡ [] }
-    requires room { limit ≤ hand.old.room }
+    requires sound { IsSoundOutgoing logged.old.limit logged.old.writer logged.old.hand }
     ensures served { (moved : Moved)
-        × IsServed (IsHandedBy S.record_of S.may_hand) dest.0 limit moved result
+        × IsServed (IsHandedBy S.record_of S.may_hand) dest.0 logged.old.limit moved result
         (record {
-          writer = writer.old.writer;
-          log = log.old;
+          writer = logged.old.writer.writer;
+          log = logged.old.log;
           made = S.record_of supply.old;
           reported = W.contents (stream_of sink.old);
         })
         (record {
-          writer = writer.new.writer;
-          log = log.new;
+          writer = logged.new.writer.writer;
+          log = logged.new.log;
           made = S.record_of supply.new;
           reported = W.contents (stream_of sink.new);
         })
         (counts_of sink.old) (counts_of sink.new) }
-    ensures up { is_failed result ≡ true → writer.new.writer.up ≡ false }
-    ensures stays { is_failed result ≡ false → writer.new.writer.up ≡ true }
-    ensures limit { writer.new.limit ≡ writer.old.limit }
-    ensures emptied { hand.new.points ≡ [] }
-    ensures room { hand.new.room ≡ hand.old.room }
+    ensures up { is_failed result ≡ true → logged.new.writer.writer.up ≡ false }
+    ensures stays { is_failed result ≡ false → logged.new.writer.writer.up ≡ true }
+    ensures limit { logged.new.limit ≡ logged.old.limit }
+    ensures sound { IsSoundOutgoing logged.new.limit logged.new.writer logged.new.hand }
     ensures owners { (dest : ℕ) → S.is_owned supply.new dest ≡ S.is_owned supply.old dest }
 {
+    let limit = logged.limit;
+    let writer = &mut logged.writer;
+    let log = &mut logged.log;
+    let hand = &mut logged.hand;
     take_batch(dest, limit, writer, log, hand, supply);
     let report = drive_connection(writer, gathered, sink, log);
     if is_failed(report.driven) {

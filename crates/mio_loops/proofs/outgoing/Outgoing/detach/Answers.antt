@@ -14,7 +14,7 @@ invariant_of-self-2 g c =
         fits = e.limit ∙ i.fits;
         empty = i.empty;
         room = i.room;
-        unwritten = subst HoldsOnlyUnwritten (sym e.step) (holds_only_unwritten (DownStep ∷ []) c.self.inside.writer.writer i.unwritten ((e.ok, tt)));
+        unwritten = subst HoldsOnlyUnwritten (sym e.step) (holds_only_unwritten (DownStep ∷ []) c.self.inside.logged.writer.writer i.unwritten ((e.ok, tt)));
       },
       ap (λ (w : WriterState). w.up) e.step,
     )
