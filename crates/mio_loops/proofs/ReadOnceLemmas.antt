@@ -1,5 +1,5 @@
 -- What one read of a connection comes to.
-use Rattle.std.proofs.Common.{◌≡◌, ◌≢◌, ◌≤◌, ◌++◌, ◌∙◌, ◌==◌, if◌then◌else◌, ℕ, true, List, [], ◌∷◌, length, nat_le, Option, None, Some, refl, sym, ap, subst, arith}
+use Rattle.std.proofs.Common.{◌≡◌, ◌≢◌, ◌≤◌, ◌++◌, ◌∙◌, ◌==◌, if◌then◌else◌, ℕ, true, List, [], ◌∷◌, length, take, drop, nat_le, Option, None, Some, refl, sym, ap, subst, arith}
 use Rattle.std.specs.Prelude.{IfSome}
 use Rattle.std.proofs.lemmas.List.{append-nil}
 use Rattle.std.proofs.lemmas.Grind.{common_steps}
@@ -12,7 +12,15 @@ use Rattle.reader_core.specs.Entries.{InputEntry, Piece, bytes_of_entries}
 use Rattle.mio_loops.specs.Serving.{WasRead, IsFedAs, are_reads, is_read, fits_last, served_of, served_after, most_read}
 use Rattle.mio_loops.specs.declared.served.Served.{Served}
 use Rattle.mio_loops.specs.declared.served.Served.TheVariants.{Drained, Again, Ended, Failed, Starved, Refused}
+use Rattle.mio_loops.proofs.WriteLoopLemmas.{refilled}
 use Rattle.mio_loops.proofs.ServingLemmas.{again-failed, again-ended, again-refused, refused-failed}
+
+-- ---- the room for a read
+
+-- a buffer has as much room after a read into all of it as before
+pub room-kept : (count : ℕ) (items news : List ℕ) → count ≡ length items → length items ≡ most_read → length news ≡ length items
+    → length (take count (news ++ drop (length news) items)) ≡ most_read
+room-kept count items news all room same = ap length (refilled count news (drop (length news) items) (all ∙ sym same)) ∙ same ∙ room
 
 -- ---- answers that differ
 

@@ -20,7 +20,9 @@ ghost use Rattle.queue_records.specs.Offers.{IsRefusedBy};
 
 use crate::admit_fault::AdmitFault;
 use crate::input_log::InputLog;
+use crate::read_room::ReadRoom;
 use crate::read_totals::{ReadTotals, totals_of};
+use crate::reader_turn::ReaderTurn;
 use crate::ready_tokens::marks_of;
 use crate::serve::{MOST_READ, serve, stays};
 use crate::served::Served;
@@ -52,8 +54,7 @@ pub struct ReadLoop<S: Drop> {
     sources: Slab<Counting<S>>,
     readers: Vec<Reader>,
     again: Vec<bool>,
-    log: InputLog,
-    buffer: Vec<u8>,
+    room: ReadRoom,
 }
 
 impl<S: Drop> Model for ReadLoop<S> {
@@ -64,10 +65,10 @@ impl<S: Drop> Model for ReadLoop<S> {
 
     ghost use Rattle.mio_loops.specs.StoredLoop.{IsSoundLoop, loop_of};
 
-    ghost view = { λ l. loop_of l.first l.sources l.readers.items l.again.items l.log };
+    ghost view = { λ l. loop_of l.first l.sources l.readers.items l.again.items l.room.log };
 
     ghost invariant = { λ l. IsSoundLoop
-        (loop_of l.first l.sources l.readers.items l.again.items l.log) (length l.buffer.items) };
+        (loop_of l.first l.sources l.readers.items l.again.items l.room.log) (length l.room.buffer.items) };
 }
 
 impl<S: Read + Drop> ReadLoop<S> {
@@ -94,8 +95,7 @@ impl<S: Read + Drop> ReadLoop<S> {
             sources,
             readers,
             again,
-            log,
-            buffer,
+            room: ReadRoom { buffer, log },
         })
     }
 
@@ -189,21 +189,15 @@ impl<S: Read + Drop> ReadLoop<S> {
         ensures dests { plan.old.destinations ≤ length (D.record_of door.new).totals }
         ensures plan { plan.new ≡ plan.old }
     {
-        let number = self.first + token.0;
+        let turn = ReaderTurn {
+            number: self.first + token.0,
+            moment,
+        };
         let Some(source) = self.sources.get_mut(token.0) else {
             unreachable!();
         };
         let reader = &mut self.readers[token.0];
-        let served = serve(
-            source,
-            &mut self.buffer,
-            reader,
-            number,
-            plan,
-            door,
-            &mut self.log,
-            moment,
-        );
+        let served = serve(source, &mut self.room, reader, turn, plan, door);
         self.again[token.0] = is_again(served);
         if stays(served) {
             return served;
@@ -356,21 +350,22 @@ impl<S: Read + Drop> ReadLoop<S> {
 
     /// The room for reads. It begins with the bytes of the last read that gave some.
     pub fn buffer(&self) -> &[u8] {
-        self.buffer.as_slice()
+        self.room.buffer.as_slice()
     }
 
     /// What the readers were fed.
     pub fn log(&self) -> &InputLog
         ensures { result.now ≡ self.now.log }
     {
-        &self.log
+        &self.room.log
     }
 
     /// Ends the loop: closes its connections, and returns what the readers were fed.
     pub fn close(self) -> InputLog
         ensures { result ≡ self.log }
     {
-        self.log
+        let room = self.room;
+        room.log
     }
 }
 

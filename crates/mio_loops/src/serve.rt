@@ -11,6 +11,8 @@ ghost use Rattle.mio_loops.specs.Serving.{ConnectionServed, WasRead, IsFedAs, ar
 
 use crate::input_log::InputLog;
 use crate::offers::make_offers;
+use crate::read_room::ReadRoom;
+use crate::reader_turn::ReaderTurn;
 use crate::served::Served;
 use dest_writer::Counting;
 use line_text::Moment;
@@ -29,71 +31,70 @@ pub const MOST_READ: usize = 4_096;
 /// and all its offers are made, before the next read. If the connection leaves, its reader has ended.
 pub(crate) fn serve<S: Read, D: Door>(
     source: &mut Counting<S>,
-    buffer: &mut [u8],
+    room: &mut ReadRoom,
     reader: &mut Reader,
-    number: usize,
+    turn: ReaderTurn,
     plan: &mut Plan,
     door: &mut D,
-    log: &mut InputLog,
-    moment: Moment,
 ) -> Served
-    requires room { length buffer.old ≡ MOST_READ }
+    requires room { length room.old.buffer.items ≡ MOST_READ }
     requires open { is_closed reader.old ≡ false }
     requires dests { plan.old.destinations ≤ length (D.record_of door.old).totals }
     ensures went { (pieces : List InputEntry) × (made : List Dispatch)
-        × ReaderProgress plan.old number (with_end result pieces) made reader.old reader.new
-        (D.record_of door.old) (D.record_of door.new) log.old log.new
-        × ConnectionServed S.remaining plan.old moment result pieces made (Some reader.old)
+        × ReaderProgress plan.old turn.number (with_end result pieces) made reader.old reader.new
+        (D.record_of door.old) (D.record_of door.new) room.old.log room.new.log
+        × ConnectionServed S.remaining plan.old turn.moment result pieces made (Some reader.old)
         reader.new.waiting source.old source.new }
-    ensures waits { AreMadeOrRefused (IsRefusedBy D.may_refuse number) plan.old.destinations
+    ensures waits { AreMadeOrRefused (IsRefusedBy D.may_refuse turn.number) plan.old.destinations
         reader.new.waiting }
     ensures open { is_closed reader.new ≡ false }
-    ensures room { length buffer.new ≡ MOST_READ }
+    ensures room { length room.new.buffer.items ≡ MOST_READ }
     ensures dests { plan.old.destinations ≤ length (D.record_of door.new).totals }
     ensures plan { plan.new ≡ plan.old }
 {
-    let served = serve_reads(source, buffer, reader, number, plan, door, log, moment);
+    let number = turn.number;
+    let served = serve_reads(source, room, reader, turn, plan, door);
     if stays(served) {
         return served;
     }
     reader.end();
-    log.end(number);
+    room.log.end(number);
     served
 }
 
 /// [`serve`] without the end of the reader.
 fn serve_reads<S: Read, D: Door>(
     source: &mut Counting<S>,
-    buffer: &mut [u8],
+    room: &mut ReadRoom,
     reader: &mut Reader,
-    number: usize,
+    turn: ReaderTurn,
     plan: &mut Plan,
     door: &mut D,
-    log: &mut InputLog,
-    moment: Moment,
 ) -> Served
-    requires room { length buffer.old ≡ MOST_READ }
+    requires room { length room.old.buffer.items ≡ MOST_READ }
     requires open { is_closed reader.old ≡ false }
     requires dests { plan.old.destinations ≤ length (D.record_of door.old).totals }
     ensures went { (pieces : List InputEntry) × (made : List Dispatch)
-        × ReaderProgress plan.old number pieces made reader.old reader.new
-        (D.record_of door.old) (D.record_of door.new) log.old log.new
-        × ConnectionServed S.remaining plan.old moment result pieces made (Some reader.old)
+        × ReaderProgress plan.old turn.number pieces made reader.old reader.new
+        (D.record_of door.old) (D.record_of door.new) room.old.log room.new.log
+        × ConnectionServed S.remaining plan.old turn.moment result pieces made (Some reader.old)
         reader.new.waiting source.old source.new }
-    ensures waits { AreMadeOrRefused (IsRefusedBy D.may_refuse number) plan.old.destinations
+    ensures waits { AreMadeOrRefused (IsRefusedBy D.may_refuse turn.number) plan.old.destinations
         reader.new.waiting }
     ensures open { stays result ≡ true → is_closed reader.new ≡ false }
-    ensures room { length buffer.new ≡ MOST_READ }
+    ensures room { length room.new.buffer.items ≡ MOST_READ }
     ensures dests { plan.old.destinations ≤ length (D.record_of door.new).totals }
     ensures plan { plan.new ≡ plan.old }
 {
     // No effect at run time: the proof reads the law.
     reader_core::laws::closed_as_read();
+    let ReaderTurn { number, moment } = turn;
     if !make_offers(reader, number, plan.destinations(), door) {
         return Served::Refused;
     }
     for _ in 0..MOST_READS {
-        match read_once(source, buffer, reader, number, plan, door, log, moment) {
+        let turn = ReaderTurn { number, moment };
+        match read_once(source, room, reader, turn, plan, door) {
             None => {}
             Some(served) => return served,
         }
@@ -105,25 +106,23 @@ fn serve_reads<S: Read, D: Door>(
 /// if no further read is to be made.
 fn read_once<S: Read, D: Door>(
     source: &mut Counting<S>,
-    buffer: &mut [u8],
+    room: &mut ReadRoom,
     reader: &mut Reader,
-    number: usize,
+    turn: ReaderTurn,
     plan: &mut Plan,
     door: &mut D,
-    log: &mut InputLog,
-    moment: Moment,
 ) -> Option<Served>
-    requires room { length buffer.old ≡ MOST_READ }
+    requires room { length room.old.buffer.items ≡ MOST_READ }
     requires nothing_waits { reader.old.waiting ≡ [] }
     requires open { is_closed reader.old ≡ false }
     requires dests { plan.old.destinations ≤ length (D.record_of door.old).totals }
     ensures went { (pieces : List InputEntry) × (made : List Dispatch)
-        × ReaderProgress plan.old number pieces made reader.old reader.new
-        (D.record_of door.old) (D.record_of door.new) log.old log.new
+        × ReaderProgress plan.old turn.number pieces made reader.old reader.new
+        (D.record_of door.old) (D.record_of door.new) room.old.log room.new.log
         × WasRead (S.remaining (stream_of source.old)) (S.remaining (stream_of source.new)) pieces
         (served_of result)
-        × (are_reads moment pieces ≡ true) }
-    ensures waits { AreMadeOrRefused (IsRefusedBy D.may_refuse number) plan.old.destinations
+        × (are_reads turn.moment pieces ≡ true) }
+    ensures waits { AreMadeOrRefused (IsRefusedBy D.may_refuse turn.number) plan.old.destinations
         reader.new.waiting }
     ensures stays { stays (served_of result) ≡ true → is_closed reader.new ≡ false }
     ensures ended { served_of result ≡ Served.Ended
@@ -137,14 +136,17 @@ fn read_once<S: Read, D: Door>(
         → (counts_of source.new).failures ≡ (counts_of source.old).failures }
     ensures failed { served_of result ≡ Served.Failed
         → Rose (counts_of source.old).failures (counts_of source.new).failures }
-    ensures room { length buffer.new ≡ MOST_READ }
+    ensures room { length room.new.buffer.items ≡ MOST_READ }
     ensures dests { plan.old.destinations ≤ length (D.record_of door.new).totals }
     ensures plan { plan.new ≡ plan.old }
 {
+    let ReaderTurn { number, moment } = turn;
+    let buffer = room.buffer.as_mut_slice();
     match source.read(buffer) {
         Ok(0) => Some(Served::Ended),
         Ok(count) => {
             let (piece, _) = buffer.split_at(count);
+            let log = &mut room.log;
             feed_piece(reader, number, plan, door, log, piece, moment)
         }
         Err(error) => served_after(error.kind()),

@@ -8,7 +8,7 @@ use Rattle.mio_loops.specs.declared.served.Served.TheVariants.{Ended}
 use Rattle.mio_loops.proofs.ReadingLemmas.{went-none}
 use Rattle.queue_records.specs.Offers.{IsRefusedBy}
 use Rattle.mio_loops.proofs.ServingLemmas.{read-kept, read-none, again-ended, none-waits}
-use Rattle.mio_loops.proofs.ReadOnceLemmas.{ended-failed, ended-refused, fed-read, fed-reads, fed-fits, fed-not-again, fed-not-failed, after-fits, after-not-again, after-not-ended, after-not-refused, after-kept, after-rose}
+use Rattle.mio_loops.proofs.ReadOnceLemmas.{room-kept, ended-failed, ended-refused, fed-read, fed-reads, fed-fits, fed-not-again, fed-not-failed, after-fits, after-not-again, after-not-ended, after-not-refused, after-kept, after-rose}
 use Rattle.mio_loops.proofs.serve.read_once.Goals as goal
 
 -- ---- the stream is at its end
@@ -17,7 +17,7 @@ pub returns-in-Ok-eq0-clause-went : goal.returns-in-Ok-eq0-clause-went
 returns-in-Ok-eq0-clause-went g c = (
   [],
   [],
-  went-none c.args.plan.now c.args.number c.args.reader.now (g.D.Door.record_of c.args.door.now) c.args.log.now,
+  went-none c.args.plan.now c.args.turn.number c.args.reader.now (g.D.Door.record_of c.args.door.now) c.args.room.now.log,
   read-none _ _ _ _ (ap (λ n. take n c.read.new.buf) c.in-Ok-eq0.field-0-test) c.in-Ok-eq0.ensures.bytes.0,
   refl,
 )
@@ -27,7 +27,7 @@ returns-in-Ok-eq0-clause-stays g c = λ e. absurd (false≢true e)
 
 pub returns-in-Ok-eq0-clause-ended : goal.returns-in-Ok-eq0-clause-ended
 returns-in-Ok-eq0-clause-ended g c =
-    let room = c.read.auto.buf ∙ c.requires.room in
+    let room = c.read.auto.buf ∙ ap length c.as_mut_slice-buffer.ensures.value ∙ c.requires.room in
     let some : 0 < length c.read.new.buf = omega (arith, room) in
     λ _. inl (c.in-Ok-eq0.ensures.bytes.1 c.in-Ok-eq0.field-0-test some)
 
@@ -53,7 +53,8 @@ pub returns-in-Ok-eq0-clause-failed : goal.returns-in-Ok-eq0-clause-failed
 returns-in-Ok-eq0-clause-failed g c = λ e. absurd (ended-failed e)
 
 pub returns-in-Ok-eq0-clause-room : goal.returns-in-Ok-eq0-clause-room
-returns-in-Ok-eq0-clause-room g c = c.read.auto.buf ∙ c.requires.room
+returns-in-Ok-eq0-clause-room g c =
+    room-kept c.args.room.now.buffer.len c.args.room.now.buffer.items c.read.new.buf c.args.room.now.buffer.ok.0 c.requires.room (c.read.auto.buf ∙ ap length c.as_mut_slice-buffer.ensures.value)
 
 pub returns-in-Ok-eq0-clause-dests : goal.returns-in-Ok-eq0-clause-dests
 returns-in-Ok-eq0-clause-dests g c = c.requires.dests
@@ -78,13 +79,13 @@ returns-in-Ok-clause-went g c =
     let piece = c.split_at.result.0.now in
     let count = c.split_at.ensures.front_len in
     let bound = c.in-Ok.ensures.bound.0 in
-    let room = c.read.auto.buf ∙ c.requires.room in
+    let room = c.read.auto.buf ∙ ap length c.as_mut_slice-buffer.ensures.value ∙ c.requires.room in
     let short : length piece ≤ 4096 = omega (arith, count, bound, room) in (
       w.0,
       w.1,
       w.2,
-      fed-read c.feed_piece.result _ _ piece (take c.in-Ok.count c.read.new.buf) c.args.moment w.0 c.split_at.ensures.front w.3 short c.in-Ok.ensures.bytes.0,
-      fed-reads c.feed_piece.result piece c.args.moment w.0 w.3 short,
+      fed-read c.feed_piece.result _ _ piece (take c.in-Ok.count c.read.new.buf) c.args.turn.moment w.0 c.split_at.ensures.front w.3 short c.in-Ok.ensures.bytes.0,
+      fed-reads c.feed_piece.result piece c.args.turn.moment w.0 w.3 short,
     )
 
 pub returns-in-Ok-clause-stays : goal.returns-in-Ok-clause-stays
@@ -105,12 +106,12 @@ returns-in-Ok-clause-calls g c = ap (λ (n : CountedCalls). n.calls) c.in-Ok.ens
 pub returns-in-Ok-clause-not_again : goal.returns-in-Ok-clause-not_again
 returns-in-Ok-clause-not_again g c =
     let w = c.feed_piece.ensures.went in
-    fed-not-again c.feed_piece.result c.split_at.result.0.now c.args.moment w.0 w.3
+    fed-not-again c.feed_piece.result c.split_at.result.0.now c.args.turn.moment w.0 w.3
 
 pub returns-in-Ok-clause-outcome : goal.returns-in-Ok-clause-outcome
 returns-in-Ok-clause-outcome g c =
     let w = c.feed_piece.ensures.went in
-    fed-fits c.feed_piece.result c.split_at.result.0.now c.args.moment w.0 _ w.3 (ap (λ (n : CountedCalls). n.last) c.in-Ok.ensures.counts)
+    fed-fits c.feed_piece.result c.split_at.result.0.now c.args.turn.moment w.0 _ w.3 (ap (λ (n : CountedCalls). n.last) c.in-Ok.ensures.counts)
 
 pub returns-in-Ok-clause-not_failed : goal.returns-in-Ok-clause-not_failed
 returns-in-Ok-clause-not_failed g c = λ _. ap (λ (n : CountedCalls). n.failures) c.in-Ok.ensures.counts
@@ -118,10 +119,11 @@ returns-in-Ok-clause-not_failed g c = λ _. ap (λ (n : CountedCalls). n.failure
 pub returns-in-Ok-clause-failed : goal.returns-in-Ok-clause-failed
 returns-in-Ok-clause-failed g c =
     let w = c.feed_piece.ensures.went in
-    λ e. absurd (fed-not-failed c.feed_piece.result c.split_at.result.0.now c.args.moment w.0 w.3 e)
+    λ e. absurd (fed-not-failed c.feed_piece.result c.split_at.result.0.now c.args.turn.moment w.0 w.3 e)
 
 pub returns-in-Ok-clause-room : goal.returns-in-Ok-clause-room
-returns-in-Ok-clause-room g c = c.read.auto.buf ∙ c.requires.room
+returns-in-Ok-clause-room g c =
+    room-kept c.args.room.now.buffer.len c.args.room.now.buffer.items c.read.new.buf c.args.room.now.buffer.ok.0 c.requires.room (c.read.auto.buf ∙ ap length c.as_mut_slice-buffer.ensures.value)
 
 pub returns-in-Ok-clause-dests : goal.returns-in-Ok-clause-dests
 returns-in-Ok-clause-dests g c = c.feed_piece.ensures.dests
@@ -135,7 +137,7 @@ pub returns-in-Err-clause-went : goal.returns-in-Err-clause-went
 returns-in-Err-clause-went g c = (
   [],
   [],
-  went-none c.args.plan.now c.args.number c.args.reader.now (g.D.Door.record_of c.args.door.now) c.args.log.now,
+  went-none c.args.plan.now c.args.turn.number c.args.reader.now (g.D.Door.record_of c.args.door.now) c.args.room.now.log,
   read-kept _ _ _ c.in-Err.ensures.bytes,
   refl,
 )
@@ -176,7 +178,8 @@ returns-in-Err-clause-failed g c =
     after-rose c.served_after.result (outcome_of_kind c.kind.result) _ _ c.served_after.ensures (ap (λ (n : CountedCalls). n.failures) counts)
 
 pub returns-in-Err-clause-room : goal.returns-in-Err-clause-room
-returns-in-Err-clause-room g c = c.read.auto.buf ∙ c.requires.room
+returns-in-Err-clause-room g c =
+    room-kept c.args.room.now.buffer.len c.args.room.now.buffer.items c.read.new.buf c.args.room.now.buffer.ok.0 c.requires.room (c.read.auto.buf ∙ ap length c.as_mut_slice-buffer.ensures.value)
 
 pub returns-in-Err-clause-dests : goal.returns-in-Err-clause-dests
 returns-in-Err-clause-dests g c = c.requires.dests
@@ -184,10 +187,10 @@ returns-in-Err-clause-dests g c = c.requires.dests
 -- ---- what waits
 
 pub returns-in-Ok-eq0-clause-waits : goal.returns-in-Ok-eq0-clause-waits
-returns-in-Ok-eq0-clause-waits g c = none-waits (IsRefusedBy g.D.Door.may_refuse c.args.number) c.args.plan.now.destinations _ c.requires.nothing_waits
+returns-in-Ok-eq0-clause-waits g c = none-waits (IsRefusedBy g.D.Door.may_refuse c.args.turn.number) c.args.plan.now.destinations _ c.requires.nothing_waits
 
 pub returns-in-Ok-clause-waits : goal.returns-in-Ok-clause-waits
 returns-in-Ok-clause-waits g c = c.feed_piece.ensures.waits
 
 pub returns-in-Err-clause-waits : goal.returns-in-Err-clause-waits
-returns-in-Err-clause-waits g c = none-waits (IsRefusedBy g.D.Door.may_refuse c.args.number) c.args.plan.now.destinations _ c.requires.nothing_waits
+returns-in-Err-clause-waits g c = none-waits (IsRefusedBy g.D.Door.may_refuse c.args.turn.number) c.args.plan.now.destinations _ c.requires.nothing_waits

@@ -16,7 +16,7 @@ returns-then-not-make_offers-clause-went g c =
     let made = c.make_offers.ensures.made in (
       [],
       made.0,
-      went-waiting c.args.plan.now c.args.number made.0 _ _ _ _ c.args.log.now made.1,
+      went-waiting c.args.plan.now c.args.turn.number made.0 _ _ _ _ c.args.room.now.log made.1,
       record {
         calls = omega arith;
         tried = λ other. absurd (other refl);
@@ -41,7 +41,7 @@ loop-init g c =
       went = (
         [],
         made.0,
-        went-waiting c.args.plan.now c.args.number made.0 _ _ _ _ c.args.log.now made.1,
+        went-waiting c.args.plan.now c.args.turn.number made.0 _ _ _ _ c.args.room.now.log made.1,
         read-not _ Again,
         refl,
         [],
@@ -67,8 +67,8 @@ returns-in-Some-clause-went g c =
     let plan = c.args.plan.now in
     let calls = calls-next c.loop.counter _ _ _ held.calls held.unread e.calls in
     let few = c.loop-test.true in
-    let whole = went-then plan c.args.number old.0 more.0 old.1 more.1 _ _ _ _ _ _ _ _ _ old.2
-    (subst (λ (p : Plan). ReaderProgress p c.args.number more.0 more.1 c.loop.reader c.read_once.new.reader (g.D.Door.record_of c.loop.door) (g.D.Door.record_of c.read_once.new.door) c.loop.log c.read_once.new.log) held.plan more.2) in (
+    let whole = went-then plan c.args.turn.number old.0 more.0 old.1 more.1 _ _ _ _ _ _ _ _ _ old.2
+    (subst (λ (p : Plan). ReaderProgress p c.args.turn.number more.0 more.1 c.loop.reader c.read_once.new.reader (g.D.Door.record_of c.loop.door) (g.D.Door.record_of c.read_once.new.door) c.loop.room.log c.read_once.new.room.log) held.plan more.2) in (
       old.0 ++ more.0,
       old.1 ++ more.1,
       whole,
@@ -84,7 +84,7 @@ returns-in-Some-clause-went g c =
         failed = λ is. subst (λ (f : ℕ). Rose f (counts_of c.read_once.new.source).failures) held.failures (e.failed is);
         not_failed = λ other. e.not_failed other ∙ held.failures;
         bytes = read-then _ _ _ old.0 more.0 _ old.3 more.3;
-        reads = reads-then c.args.moment old.0 more.0 old.4 more.4;
+        reads = reads-then c.args.turn.moment old.0 more.0 old.4 more.4;
         waited = inr (old.5 ++ more.1, ap (λ (m : List Dispatch). m ++ more.1) old.6 ∙ append_assoc c.args.reader.now.waiting old.5 more.1);
         offered = e.offered;
         refused = e.refused;
@@ -103,10 +103,10 @@ loop-preserved g c =
       went = (
         old.0 ++ more.0,
         old.1 ++ more.1,
-        went-then plan c.args.number old.0 more.0 old.1 more.1 _ _ _ _ _ _ _ _ _ old.2
-            (subst (λ (p : Plan). ReaderProgress p c.args.number more.0 more.1 c.loop.reader c.read_once.new.reader (g.D.Door.record_of c.loop.door) (g.D.Door.record_of c.read_once.new.door) c.loop.log c.read_once.new.log) held.plan more.2),
+        went-then plan c.args.turn.number old.0 more.0 old.1 more.1 _ _ _ _ _ _ _ _ _ old.2
+            (subst (λ (p : Plan). ReaderProgress p c.args.turn.number more.0 more.1 c.loop.reader c.read_once.new.reader (g.D.Door.record_of c.loop.door) (g.D.Door.record_of c.read_once.new.door) c.loop.room.log c.read_once.new.room.log) held.plan more.2),
         read-then _ _ _ old.0 more.0 _ old.3 more.3,
-        reads-then c.args.moment old.0 more.0 old.4 more.4,
+        reads-then c.args.turn.moment old.0 more.0 old.4 more.4,
         old.5 ++ more.1,
         ap (λ (m : List Dispatch). m ++ more.1) old.6 ∙ append_assoc c.args.reader.now.waiting old.5 more.1,
       );
@@ -167,11 +167,11 @@ returns-in-Some-clause-plan g c = c.in-Some.ensures.plan ∙ c.loop.invariant.pl
 -- ---- what waits
 
 pub returns-then-not-make_offers-clause-waits : goal.returns-then-not-make_offers-clause-waits
-returns-then-not-make_offers-clause-waits g c = waits-among (IsRefusedBy g.D.Door.may_refuse c.args.number) _ c.args.plan.now.destinations _ c.destinations.ensures c.make_offers.ensures.waits
+returns-then-not-make_offers-clause-waits g c = waits-among (IsRefusedBy g.D.Door.may_refuse c.args.turn.number) _ c.args.plan.now.destinations _ c.destinations.ensures c.make_offers.ensures.waits
 
 pub returns-in-Some-clause-waits : goal.returns-in-Some-clause-waits
 returns-in-Some-clause-waits g c =
-    waits-among (IsRefusedBy g.D.Door.may_refuse c.args.number) _ c.args.plan.now.destinations _ (ap (λ (p : Plan). p.destinations) c.loop.invariant.plan) c.in-Some.ensures.waits
+    waits-among (IsRefusedBy g.D.Door.may_refuse c.args.turn.number) _ c.args.plan.now.destinations _ (ap (λ (p : Plan). p.destinations) c.loop.invariant.plan) c.in-Some.ensures.waits
 
 pub returns-clause-waits : goal.returns-clause-waits
-returns-clause-waits g c = none-waits (IsRefusedBy g.D.Door.may_refuse c.args.number) c.args.plan.now.destinations _ c.loop.invariant.waits
+returns-clause-waits g c = none-waits (IsRefusedBy g.D.Door.may_refuse c.args.turn.number) c.args.plan.now.destinations _ c.loop.invariant.waits

@@ -1,9 +1,8 @@
-use Rattle.std.proofs.Common.{◌≡◌, ◌<◌, ℕ, length, Option, Some, None, is_some, refl, sym, ap, subst, ◌∙◌, arith, true, false, take, drop, ◌++◌}
+use Rattle.std.proofs.Common.{◌≡◌, ◌<◌, ℕ, length, Option, Some, None, is_some, refl, sym, ap, subst, ◌∙◌, true, false}
 use Rattle.std.proofs.lemmas.Bool.{false≢true}
 use Rattle.std.proofs.lemmas.List.{get_or-set_same}
 use Rattle.std.proofs.lemmas.Option.{slice_get_read}
 use Rattle.std.specs.Option.{option_copied_mut}
-use Rattle.std.proofs.lemmas.Grind.{common_steps}
 use Rattle.slab.specs.Slab.{get, with_value}
 use Rattle.slab.proofs.SlabLemmas.{Updates-with_value}
 use Rattle.dest_writer.specs.Counting.{counts_of}
@@ -29,7 +28,7 @@ index_mut-reader-requires g c =
     subst (λ (n : ℕ). c.args.token.0 < n) (sym (inside.readers.ok.0 ∙ c.self.invariant.readers)) (c.self.invariant.tokens c.args.token.0 (ap is_some held))
 
 pub serve-served-requires-clause-room : goal.serve-served-requires-clause-room
-serve-served-requires-clause-room g c = ap length c.deref_mut.ensures.value ∙ c.self.invariant.one_read
+serve-served-requires-clause-room g c = c.self.invariant.one_read
 
 pub serve-served-requires-clause-open : goal.serve-served-requires-clause-open
 serve-served-requires-clause-open g c =
@@ -57,11 +56,10 @@ invariant_of-self g c =
     let new = c.serve-served.new in
     let held : get inside.sources t ≡ Some c.in-Some.source.now = sym c.in-Some.ensures.value in
     let put = Updates-with_value inside.sources t new.source (ap is_some held) in
-    let room : length (take inside.buffer.len (new.buffer ++ drop (length new.buffer) inside.buffer.items)) ≡ 4096 = (let r = c.serve-served.ensures.room in let o = c.self.invariant.one_read in let k = inside.buffer.ok in grind (arith, common_steps)) in
-    sound-served _ _ _ t _ (Some new.source) new.reader c.is_again.result new.log c.self.invariant put refl (c.self.invariant.tokens t (ap is_some held)) c.serve-served.ensures.open
+    sound-served _ _ _ t _ (Some new.source) new.reader c.is_again.result new.room.log c.self.invariant put refl (c.self.invariant.tokens t (ap is_some held)) c.serve-served.ensures.open
     (λ last is free. c.is_again.ensures ∙ again-where-unblocked c.serve-served.result (counts_of new.source).last (sym c.stays.ensures ∙ c.if-stays.true) c.serve-served.ensures.went.3.outcome
     (subst (λ (s : Counting g.row.S.Denot). would_block (counts_of s).last ≡ false) (sym (same new.source last is)) free))
-    room
+    c.serve-served.ensures.room
 
 pub returns-then-stays-clause-went : goal.returns-then-stays-clause-went
 returns-then-stays-clause-went g c =
@@ -70,7 +68,7 @@ returns-then-stays-clause-went g c =
     let new = c.serve-served.new in
     let held : get inside.sources t ≡ Some c.in-Some.source.now = sym c.in-Some.ensures.value in
     let w = c.serve-served.ensures.went in
-    served-there c.args.plan.now g.S.Read.remaining c.args.moment _ _ _ t c.serve-served.result w.0 w.1 c.in-Some.source.now new.source _ c.index_mut-reader.result.now new.reader _ _ c.is_again.result new.log _ _
+    served-there c.args.plan.now g.S.Read.remaining c.args.moment _ _ _ t c.serve-served.result w.0 w.1 c.in-Some.source.now new.source _ c.index_mut-reader.result.now new.reader _ _ c.is_again.result new.room.log _ _
     c.self.view_is c.self.invariant held c.index_mut-reader.ensures.value (Updates-with_value inside.sources t new.source (ap is_some held))
     (after-stays c.serve-served.result new.source (sym c.stays.ensures ∙ c.if-stays.true)) w.2 w.3
 
@@ -79,7 +77,7 @@ returns-then-stays-clause-others g c =
     let inside = c.self.inside in
     let new = c.serve-served.new in
     let held : get inside.sources c.args.token.0 ≡ Some c.in-Some.source.now = sym c.in-Some.ensures.value in
-    others-there _ _ c.args.token.0 _ _ new.reader c.is_again.result new.log c.self.view_is (Updates-with_value inside.sources c.args.token.0 new.source (ap is_some held))
+    others-there _ _ c.args.token.0 _ _ new.reader c.is_again.result new.room.log c.self.view_is (Updates-with_value inside.sources c.args.token.0 new.source (ap is_some held))
 
 pub returns-then-stays-clause-listed : goal.returns-then-stays-clause-listed
 returns-then-stays-clause-listed g c =
@@ -108,10 +106,9 @@ invariant_of-self-2 g c =
     let held : get inside.sources t ≡ Some c.in-Some.source.now = sym c.in-Some.ensures.value in
     let put = Updates-with_value inside.sources t new.source (ap is_some held) in
     let update = Updates-again inside.sources (with_value inside.sources t new.source) c.try_remove.new.self t (Some new.source) None put c.try_remove.ensures.updates in
-    let room : length (take inside.buffer.len (new.buffer ++ drop (length new.buffer) inside.buffer.items)) ≡ 4096 = (let r = c.serve-served.ensures.room in let o = c.self.invariant.one_read in let k = inside.buffer.ok in grind (arith, common_steps)) in
-    sound-served _ _ _ t c.try_remove.new.self None new.reader c.is_again.result new.log c.self.invariant update c.try_remove.ensures.capacity (c.self.invariant.tokens t (ap is_some held)) c.serve-served.ensures.open
+    sound-served _ _ _ t c.try_remove.new.self None new.reader c.is_again.result new.room.log c.self.invariant update c.try_remove.ensures.capacity (c.self.invariant.tokens t (ap is_some held)) c.serve-served.ensures.open
     (λ last is free. absurd (none-some last is))
-    room
+    c.serve-served.ensures.room
 
 pub returns-clause-went : goal.returns-clause-went
 returns-clause-went g c =
@@ -121,7 +118,7 @@ returns-clause-went g c =
     let held : get inside.sources t ≡ Some c.in-Some.source.now = sym c.in-Some.ensures.value in
     let put = Updates-with_value inside.sources t new.source (ap is_some held) in
     let w = c.serve-served.ensures.went in
-    served-there c.args.plan.now g.S.Read.remaining c.args.moment _ _ _ t c.serve-served.result w.0 w.1 c.in-Some.source.now new.source _ c.index_mut-reader.result.now new.reader _ _ c.is_again.result new.log _ _
+    served-there c.args.plan.now g.S.Read.remaining c.args.moment _ _ _ t c.serve-served.result w.0 w.1 c.in-Some.source.now new.source _ c.index_mut-reader.result.now new.reader _ _ c.is_again.result new.room.log _ _
     c.self.view_is c.self.invariant held c.index_mut-reader.ensures.value (Updates-again _ _ _ t _ None put c.try_remove.ensures.updates)
     (after-leaves c.serve-served.result new.source (sym c.stays.ensures ∙ c.if-stays.false)) w.2 w.3
 
@@ -131,7 +128,7 @@ returns-clause-others g c =
     let new = c.serve-served.new in
     let held : get inside.sources c.args.token.0 ≡ Some c.in-Some.source.now = sym c.in-Some.ensures.value in
     let put = Updates-with_value inside.sources c.args.token.0 new.source (ap is_some held) in
-    others-there _ _ c.args.token.0 _ _ new.reader c.is_again.result new.log c.self.view_is (Updates-again _ _ _ c.args.token.0 _ None put c.try_remove.ensures.updates)
+    others-there _ _ c.args.token.0 _ _ new.reader c.is_again.result new.room.log c.self.view_is (Updates-again _ _ _ c.args.token.0 _ None put c.try_remove.ensures.updates)
 
 pub returns-clause-listed : goal.returns-clause-listed
 returns-clause-listed g c =
