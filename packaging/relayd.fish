@@ -47,7 +47,7 @@ complete -c relayd -n '__relayd_command route report watch' -l json -d 'Prints a
 complete -c relayd -n '__relayd_command replay' -l lines -r -F -d 'A file of datapoints, one per line, instead of SCRIPT'
 complete -c relayd -n '__relayd_command replay' -l text -d 'Also shows as text what each destination got'
 complete -c relayd -n '__relayd_command replay' -F
-complete -c relayd -n '__relayd_command run' -l admin -x -d 'The port on 127.0.0.1 for report, watch, stop, restart and reload, 1 to 65535'
+complete -c relayd -n '__relayd_command run' -l admin -x -d 'The port on 127.0.0.1 for route, report, watch, stop, restart and reload, 1 to 65535'
 complete -c relayd -n '__relayd_command run' -l senders -x -a '1 2 3 4 5 6 7 8' -d 'The number of threads that send, 1 to 8'
 complete -c relayd -n '__relayd_command run' -l line-receivers -x -a '1 2 3 4 5 6' -d 'The number of threads that receive lines, 1 to 6'
 complete -c relayd -n '__relayd_command run' -l idle -x -d 'Closes a connection that sends no datapoint for SECONDS, 0 to 86400; 0 closes none'

@@ -18,6 +18,7 @@ ESTABLISHED = "01"
 EACH = 2_000
 TRIES = 40
 FULL = 1_024
+CLOSING = 0.5  # seconds that it takes at most to close the receivers
 RECONNECTS = 60
 
 
@@ -126,6 +127,31 @@ class LineReceivers(WithRelays):
             for stream in again:
                 stream.sendall(b"b 2 2\n")
             self.wait_for(lambda: store.lines().count(b"b 2 2") == len(again), "others have their places")
+
+    def test_a_stop_while_one_of_two_is_full(self):
+        """It shuts its port too, although it leaves connections to the other one: the stop takes no longer for that."""
+        self.needs_descriptors(3 * 2 * FULL)
+        self.gets_below(CLOSING, self.stops_while_one_is_full)
+
+    def stops_while_one_is_full(self):
+        """How long a stop takes while one of two receivers is full, and the other one holds nothing."""
+        store, = self.stores(1)
+        dests = [f"127.0.0.1:{store.port}"]
+        with self.relay(dests, ALL.format(*dests), options=("--line-receivers", "2")) as relay, \
+                contextlib.ExitStack() as stack:
+            streams = []
+            for _ in range(2 * FULL):
+                streams.append(stack.enter_context(socket.create_connection(("127.0.0.1", relay.line), LIMIT)))
+                time.sleep(0.002)
+            self.wait_for(lambda: watched(relay.child.pid, relay.line) == [FULL, FULL], "all are taken")
+            leaving = peers_of_one(relay.child.pid, relay.line)
+            for stream in streams:
+                if stream.getsockname()[1] in leaving:
+                    stream.close()
+            self.wait_for(lambda: watched(relay.child.pid, relay.line) == [FULL], "those of one have left")
+            began = time.monotonic()
+            self.settles(relay)
+            return time.monotonic() - began
 
     def test_producers_that_reconnect_stay_spread(self):
         """Receivers share by the connections that they hold, and not by those that they ever took: where all of one receiver

@@ -25,7 +25,7 @@ pub(crate) static RUN: CommandWords = CommandWords {
         Word {
             name: "admin",
             form: Form::NeededValue("PORT"),
-            help: "The port on 127.0.0.1 for report, watch, stop, restart and reload, 1 to 65535",
+            help: "The port on 127.0.0.1 for route, report, watch, stop, restart and reload, 1 to 65535",
         },
         ADMIN_KEY,
         Word {

@@ -307,8 +307,8 @@ impl StreamListener {
         accepted
     }
 
-    /// Shuts the port, if the last connections were called for.
-    fn shut_at_last_call(&mut self) {
+    /// Shuts the port, if the last connections were called for: the receiver takes none of those that wait still.
+    pub fn shut_at_last_call(&mut self) {
         if self.connections.control.is_last_call() {
             drop(self.listener.take());
             self.connections.control.note_shut();

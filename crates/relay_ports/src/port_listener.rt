@@ -102,6 +102,7 @@ impl<'s> Accept for PortListener<'s> {
         if !self.listener.has_handed() {
             if token.is_none() && self.notes.share.has_room() {
                 // The system has told the others of the connection too.
+                self.listener.shut_at_last_call();
                 return AcceptOutcome::Nothing;
             }
             if self.leaves() {

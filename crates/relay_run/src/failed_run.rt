@@ -48,7 +48,7 @@ pub(crate) fn spool_failed<B: Set, R: RelayRuntime, L: Write + Drop, F>(
     }
 }
 
-/// Writes to files what a run held that failed, if it is one of a reload. Returns how much was kept and lost.
+/// Writes to files what a failed run held, unless it was the first of the process. Returns how much was kept and lost.
 fn left_by<B: Set, R: RelayRuntime, F>(
     rt: &R,
     alloc: Global,
