@@ -2,6 +2,7 @@
 
 ghost use Rattle.std.specs.Prelude.{◌≡◌, ◌<◌, ◌≤◌, length, take, IfOk, IfSome, OnErr};
 ghost use Rattle.std.specs.Io.KnownBytes.{Consumes, Keeps, IsAtEnd};
+ghost use Rattle.relay_files.specs.declared.input.ReadFault.TheVariants.{Device as OfDevice, NoMemory as OutOfMemory};
 
 use crate::again::may_be_made_again;
 use std::alloc::{AllocError, Global};
@@ -24,12 +25,16 @@ pub(crate) enum ReadFault {
 }
 
 impl From<InputFailed> for ReadFault {
+    ghost from_gives = { λ _ fault. fault ≡ OfDevice };
+
     fn from(_fault: InputFailed) -> ReadFault {
         ReadFault::Device
     }
 }
 
 impl From<AllocError> for ReadFault {
+    ghost from_gives = { λ _ fault. fault ≡ OutOfMemory };
+
     fn from(_error: AllocError) -> ReadFault {
         ReadFault::NoMemory
     }
