@@ -1,5 +1,5 @@
 -- The lines for what a receiver has counted, and for look-ups.
-use Rattle.std.specs.Prelude.{ℕ, List, [], ◌++◌, ◌==◌, ◌&&◌, Bool, true, false, if◌then◌else◌, codes, decimal}
+use Rattle.std.specs.Prelude.{ℕ, List, [], ◌++◌, ◌==◌, ◌&&◌, Bool, true, if◌then◌else◌, codes, decimal}
 use Rattle.conf_text.specs.Destination.{Destination, destination_text}
 use Rattle.log_lines.specs.declared.receiver_counts.ReceiverCounts.{ReceiverCounts}
 use Rattle.log_lines.specs.declared.logged_counts.RefusalEvent.{RefusalEvent}

@@ -1,5 +1,5 @@
 -- When the log reports what a receiver has counted.
-use Rattle.std.specs.Prelude.{ℕ, ◌+◌, ◌-◌, ◌==◌, ◌&&◌, not, nat_lt, nat_le, if◌then◌else◌, Bool, true, false, Option, None, Some}
+use Rattle.std.specs.Prelude.{ℕ, ◌-◌, ◌==◌, ◌&&◌, not, nat_lt, nat_le, Bool, true, false, Option, None, Some}
 use Rattle.log_lines.specs.declared.receiver_counts.ReceiverCounts.{ReceiverCounts}
 use Rattle.log_lines.specs.declared.logged_counts.TheConstants.{MOST_CONNECTIONS}
 use Rattle.log_lines.specs.declared.logged_counts.LoggedCounts.{LoggedCounts}

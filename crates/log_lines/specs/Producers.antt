@@ -1,5 +1,5 @@
 -- What came from one address or several.
-use Rattle.std.specs.Prelude.{ℕ, ◌+◌}
+use Rattle.std.specs.Prelude.{◌+◌}
 use Rattle.reader_counts.specs.Counts.{counted}
 use Rattle.log_lines.specs.declared.producers.ProducerCounts.{ProducerCounts}
 

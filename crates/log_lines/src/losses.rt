@@ -1,9 +1,11 @@
 //! What a receiver lost or closed, by its reason.
 
-ghost use Rattle.std.specs.Prelude.{◌≡◌, None};
-ghost use Rattle.log_lines.specs.Losses.{count_of, losses_behind, has_lost, has_same_losses, is_losses_line_due, losses_logged_after, no_losses};
+ghost use Rattle.std.specs.Prelude.{◌≡◌, ◌<◌, None, Some};
+ghost use Rattle.std.specs.List.{slice_get};
+ghost use Rattle.log_lines.specs.Losses.{place, count_of, count_behind, losses_behind, has_lost, has_same_losses, is_losses_line_due, losses_logged_after, no_losses};
 
 use crate::logged_counts::is_minute_over;
+use std::array;
 use std::sync::atomic::{AtomicU64, Ordering};
 
 /// Why a receiver closed a connection, or why input never reached its readers.
@@ -33,21 +35,25 @@ pub const LOSS_REASONS: [LossReason; 6] = [
     LossReason::SystemDrop,
 ];
 
+/// How many reasons there are.
+const REASONS: usize = LOSS_REASONS.len();
+
+impl LossReason {
+    /// Its place in [`LOSS_REASONS`], and that of its count among all counts.
+    pub fn place(self) -> usize
+        ensures place { result ≡ place self }
+        ensures reason { slice_get LOSS_REASONS result ≡ Some self }
+        ensures within { result < REASONS }
+    {
+        self as usize
+    }
+}
+
 /// How often a receiver lost or closed something since the start, by the reason.
 #[derive(Clone, Copy)]
 pub struct LossCounts {
-    /// The connections with an overlong line or frame, or the overlong datagrams.
-    pub overlong: u64,
-    /// The connections that ended within a line or a frame.
-    pub unfinished: u64,
-    /// The connections that were closed as idle.
-    pub idle: u64,
-    /// The connections that were closed, or the datagrams that were dropped, since memory was short.
-    pub memory_short: u64,
-    /// The connections of which a read failed.
-    pub broken: u64,
-    /// The datagrams that the system dropped.
-    pub system_drops: u64,
+    /// The count of each reason, in the order of [`LOSS_REASONS`].
+    pub by_reason: [u64; REASONS],
 }
 
 impl LossCounts {
@@ -56,12 +62,7 @@ impl LossCounts {
         ensures { result ≡ no_losses }
     {
         LossCounts {
-            overlong: 0,
-            unfinished: 0,
-            idle: 0,
-            memory_short: 0,
-            broken: 0,
-            system_drops: 0,
+            by_reason: [0; REASONS],
         }
     }
 
@@ -70,63 +71,58 @@ impl LossCounts {
     pub fn behind(&self, earlier: &LossCounts) -> LossCounts
         ensures { result ≡ losses_behind earlier.now self.now }
     {
-        LossCounts {
-            overlong: earlier.overlong.saturating_add(self.overlong),
-            unfinished: earlier.unfinished.saturating_add(self.unfinished),
-            idle: earlier.idle.saturating_add(self.idle),
-            memory_short: earlier.memory_short.saturating_add(self.memory_short),
-            broken: earlier.broken.saturating_add(self.broken),
-            system_drops: earlier.system_drops.max(self.system_drops),
+        let mut by_reason = [0; REASONS];
+        for place in 0..REASONS {
+            let reason = LOSS_REASONS[place];
+            by_reason[place] = count_behind(
+                reason,
+                earlier.count_of(reason),
+                self.count_of(reason),
+            );
         }
+        LossCounts { by_reason }
     }
 
     /// The count of a reason.
     pub fn count_of(&self, reason: LossReason) -> u64
         ensures { result ≡ count_of self.now reason }
     {
-        match reason {
-            LossReason::Overlong => self.overlong,
-            LossReason::Unfinished => self.unfinished,
-            LossReason::Idle => self.idle,
-            LossReason::MemoryShort => self.memory_short,
-            LossReason::Broken => self.broken,
-            LossReason::SystemDrop => self.system_drops,
-        }
+        self.by_reason[reason.place()]
+    }
+}
+
+/// The count of a reason in a run, behind that of runs that have ended.
+fn count_behind(reason: LossReason, earlier: u64, now: u64) -> u64
+    ensures { result ≡ count_behind reason earlier now }
+{
+    match reason {
+        LossReason::SystemDrop => earlier.max(now),
+        _ => earlier.saturating_add(now),
     }
 }
 
 /// The counts of losses, as several threads raise and read them at the same time: each by itself.
 #[derive(Drop)]
 pub struct LossNotes {
-    overlong: AtomicU64,
-    unfinished: AtomicU64,
-    idle: AtomicU64,
-    memory_short: AtomicU64,
-    broken: AtomicU64,
-    system_drops: AtomicU64,
+    by_reason: [AtomicU64; REASONS],
 }
 
 impl LossNotes {
     /// All counts are 0.
     pub fn new() -> LossNotes {
         LossNotes {
-            overlong: AtomicU64::new(0),
-            unfinished: AtomicU64::new(0),
-            idle: AtomicU64::new(0),
-            memory_short: AtomicU64::new(0),
-            broken: AtomicU64::new(0),
-            system_drops: AtomicU64::new(0),
+            by_reason: array::from_fn(|_| AtomicU64::new(0)),
         }
     }
 
     /// Notes one more loss.
     pub fn note(&self, reason: LossReason) {
-        let _before = self.of(reason).fetch_add(1, Ordering::SeqCst);
+        let _before = self.by_reason[reason.place()].fetch_add(1, Ordering::SeqCst);
     }
 
     /// From now on this is the count of a reason.
     pub fn set(&self, reason: LossReason, count: u64) {
-        self.of(reason).store(count, Ordering::SeqCst);
+        self.by_reason[reason.place()].store(count, Ordering::SeqCst);
     }
 
     /// From now on these are the counts.
@@ -138,26 +134,11 @@ impl LossNotes {
 
     /// The counts now.
     pub fn counts(&self) -> LossCounts {
-        LossCounts {
-            overlong: self.overlong.load(Ordering::SeqCst),
-            unfinished: self.unfinished.load(Ordering::SeqCst),
-            idle: self.idle.load(Ordering::SeqCst),
-            memory_short: self.memory_short.load(Ordering::SeqCst),
-            broken: self.broken.load(Ordering::SeqCst),
-            system_drops: self.system_drops.load(Ordering::SeqCst),
+        let mut by_reason = [0; REASONS];
+        for place in 0..REASONS {
+            by_reason[place] = self.by_reason[place].load(Ordering::SeqCst);
         }
-    }
-
-    /// The count of a reason.
-    fn of(&self, reason: LossReason) -> &AtomicU64 {
-        match reason {
-            LossReason::Overlong => &self.overlong,
-            LossReason::Unfinished => &self.unfinished,
-            LossReason::Idle => &self.idle,
-            LossReason::MemoryShort => &self.memory_short,
-            LossReason::Broken => &self.broken,
-            LossReason::SystemDrop => &self.system_drops,
-        }
+        LossCounts { by_reason }
     }
 }
 
@@ -199,22 +180,16 @@ impl LoggedLosses {
 pub fn has_lost(counts: &LossCounts) -> bool
     ensures { result ≡ has_lost counts.now }
 {
-    counts.overlong != 0
-        || counts.unfinished != 0
-        || counts.idle != 0
-        || counts.memory_short != 0
-        || counts.broken != 0
-        || counts.system_drops != 0
+    LOSS_REASONS
+        .iter()
+        .any(|reason| counts.count_of(*reason) != 0)
 }
 
 /// Whether two counts are the same.
 fn has_same_losses(one: &LossCounts, other: &LossCounts) -> bool
     ensures { result ≡ has_same_losses one.now other.now }
 {
-    one.overlong == other.overlong
-        && one.unfinished == other.unfinished
-        && one.idle == other.idle
-        && one.memory_short == other.memory_short
-        && one.broken == other.broken
-        && one.system_drops == other.system_drops
+    LOSS_REASONS
+        .iter()
+        .all(|reason| one.count_of(*reason) == other.count_of(*reason))
 }

@@ -1,11 +1,11 @@
 //! The line for what a receiver lost or closed.
 
-ghost use Rattle.std.specs.Prelude.{◌≡◌, ◌++◌, OnOk};
+ghost use Rattle.std.specs.Prelude.{◌≡◌, ◌++◌, OnOk, true};
 ghost use Rattle.std.specs.String.{string_bytes};
-ghost use Rattle.log_lines.specs.LossesLine.{first_loss_words, has_no_first, last_loss_words, loss_words, losses_line, overlong_words, unfinished_words};
+ghost use Rattle.log_lines.specs.LossesLine.{loss_noun, loss_words, loss_words_of, losses_line, overlong_noun, unfinished_noun};
 
 use crate::counts_line::push_kind;
-use crate::losses::LossCounts;
+use crate::losses::{LOSS_REASONS, LossCounts, LossReason};
 use std::alloc::AllocError;
 use std::fmt::Write as _;
 
@@ -38,56 +38,50 @@ pub fn push_losses_line(
 }
 
 /// Adds how much was lost or closed, by reason.
+#[tactic(auto, unfolding(crate::specs::LossesLine::loss_words))]
 fn push_losses(text: &mut String, unit: InputUnit, counts: &LossCounts) -> Result<(), AllocError>
     ensures { OnOk result
         (string_bytes text.new ≡ string_bytes text.old ++ loss_words unit counts.now) }
 {
-    push_first_losses(text, unit, counts)?;
-    push_last_losses(text, has_no_first(counts), counts)
+    push_losses_of(text, unit, counts, &LOSS_REASONS)
 }
 
-/// Adds how much was lost by what producers did.
-fn push_first_losses(
+/// Adds how much was lost or closed for these reasons.
+fn push_losses_of(
     text: &mut String,
     unit: InputUnit,
     counts: &LossCounts,
+    reasons: &[LossReason],
 ) -> Result<(), AllocError>
     ensures { OnOk result
-        (string_bytes text.new ≡ string_bytes text.old ++ first_loss_words unit counts.now) }
+        (string_bytes text.new ≡ string_bytes text.old ++ loss_words_of unit counts.now true reasons.now) }
 {
-    push_kind(text, true, counts.overlong, overlong_words(unit))?;
-    let is_first = counts.overlong == 0;
-    push_kind(text, is_first, counts.unfinished, unfinished_words(unit))?;
-    let is_first = is_first && counts.unfinished == 0;
-    push_kind(text, is_first, counts.idle, "idle connection")
+    let mut is_first = true;
+    for reason in reasons {
+        let count = counts.count_of(*reason);
+        push_kind(text, is_first, count, loss_noun(unit, *reason))?;
+        is_first &= count == 0;
+    }
+    Ok(())
 }
 
-/// Whether nothing was lost by what producers did.
-fn has_no_first(counts: &LossCounts) -> bool
-    ensures { result ≡ has_no_first counts.now }
+/// What was lost or closed for a reason.
+fn loss_noun(unit: InputUnit, reason: LossReason) -> &'static str
+    ensures { result.now ≡ loss_noun unit reason }
 {
-    counts.overlong == 0 && counts.unfinished == 0 && counts.idle == 0
-}
-
-/// Adds how much was lost otherwise, behind a text that has no losses or some.
-fn push_last_losses(
-    text: &mut String,
-    is_first: bool,
-    counts: &LossCounts,
-) -> Result<(), AllocError>
-    ensures { OnOk result
-        (string_bytes text.new ≡ string_bytes text.old ++ last_loss_words is_first counts.now) }
-{
-    push_kind(text, is_first, counts.memory_short, "memory shortage")?;
-    let is_first = is_first && counts.memory_short == 0;
-    push_kind(text, is_first, counts.broken, "broken connection")?;
-    let is_first = is_first && counts.broken == 0;
-    push_kind(text, is_first, counts.system_drops, "system drop")
+    match reason {
+        LossReason::Overlong => overlong_noun(unit),
+        LossReason::Unfinished => unfinished_noun(unit),
+        LossReason::Idle => "idle connection",
+        LossReason::MemoryShort => "memory shortage",
+        LossReason::Broken => "broken connection",
+        LossReason::SystemDrop => "system drop",
+    }
 }
 
 /// What is too long.
-fn overlong_words(unit: InputUnit) -> &'static str
-    ensures { result.now ≡ overlong_words unit }
+fn overlong_noun(unit: InputUnit) -> &'static str
+    ensures { result.now ≡ overlong_noun unit }
 {
     match unit {
         InputUnit::Line => "overlong line",
@@ -97,8 +91,8 @@ fn overlong_words(unit: InputUnit) -> &'static str
 }
 
 /// What has no end. A datagram always has one.
-fn unfinished_words(unit: InputUnit) -> &'static str
-    ensures { result.now ≡ unfinished_words unit }
+fn unfinished_noun(unit: InputUnit) -> &'static str
+    ensures { result.now ≡ unfinished_noun unit }
 {
     match unit {
         InputUnit::Line => "unfinished line",

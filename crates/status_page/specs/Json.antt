@@ -8,7 +8,10 @@ use Rattle.log_lines.specs.declared.why.Why.{Why}
 use Rattle.log_lines.specs.declared.receiver_counts.ReceiverCounts.{ReceiverCounts}
 use Rattle.log_lines.specs.declared.receiver_notes.ReceiverState.{ReceiverState}
 use Rattle.log_lines.specs.declared.receiver_notes.ReceiverState.TheVariants as state
+use Rattle.log_lines.specs.Losses.{count_of}
+use Rattle.log_lines.specs.declared.losses.TheConstants.{LOSS_REASONS}
 use Rattle.log_lines.specs.declared.losses.LossCounts.{LossCounts}
+use Rattle.log_lines.specs.declared.losses.LossReason.{LossReason}
 use Rattle.log_lines.specs.declared.producers.ProducerCounts.{ProducerCounts}
 use Rattle.status_page.specs.declared.headline.Headline.{Headline}
 use Rattle.status_page.specs.declared.snapshot.ConnectionCounts.{ConnectionCounts}
@@ -21,6 +24,7 @@ use Rattle.status_page.specs.declared.snapshot.Sample.{Sample}
 use Rattle.status_page.specs.declared.snapshot.Snapshot.{Snapshot}
 use Rattle.status_page.specs.declared.snapshot.SpoolSnapshot.{SpoolSnapshot}
 use Rattle.status_page.specs.Headline.{headline, state_name}
+use Rattle.status_page.specs.LossWords.{loss_name}
 use Rattle.status_page.specs.Plain.{plain_text, plain_address}
 
 -- a member whose value is a number, behind others
@@ -140,15 +144,13 @@ unfoldable pub received_json : ReceiverCounts → List ℕ
 received_json c =
     accepted_json c ++ (bad_json c ++ (member (codes "emptied_names") c.emptied ++ member (codes "refused") c.refused))
 
+-- what it lost or closed for a reason
+unfoldable pub loss_json : LossCounts → LossReason → List ℕ
+loss_json c why = member (loss_name why) (count_of c why)
+
 -- what it lost or closed, by the reason
 unfoldable pub losses_json : LossCounts → List ℕ
-losses_json c =
-    member (codes "overlong") c.overlong
-    ++ (member (codes "unfinished") c.unfinished
-    ++ (member (codes "idle") c.idle
-    ++ (member (codes "memory_short") c.memory_short
-    ++ (member (codes "broken") c.broken
-    ++ (member (codes "system_drop") c.system_drops)))))
+losses_json c = flat_map (loss_json c) LOSS_REASONS
 
 -- how many connections it has taken, and what it counted in each second
 unfoldable pub receiver_rates_json : ReceiverSnapshot → List ℕ

@@ -1,4 +1,5 @@
 pub mod Headline
 pub mod Json
+pub mod LossWords
 pub mod Metrics
 pub mod Plain

@@ -5,7 +5,8 @@ use Rattle.conf_text.specs.Destination.{destination_text}
 use Rattle.log_lines.specs.declared.receiver_notes.ReceiverState.{ReceiverState}
 use Rattle.log_lines.specs.declared.receiver_notes.ReceiverState.TheVariants as state
 use Rattle.log_lines.specs.Losses.{count_of}
-use Rattle.log_lines.specs.declared.losses.LossReason.TheVariants as loss
+use Rattle.log_lines.specs.declared.losses.TheConstants.{LOSS_REASONS}
+use Rattle.log_lines.specs.declared.losses.LossReason.{LossReason}
 use Rattle.status_page.specs.declared.dest_metrics.DestMetric.{DestMetric}
 use Rattle.status_page.specs.declared.dest_metrics.DestMetric.TheVariants as dest
 use Rattle.status_page.specs.declared.receiver_metrics.ReceiverMetric.{ReceiverMetric}
@@ -13,6 +14,7 @@ use Rattle.status_page.specs.declared.receiver_metrics.ReceiverMetric.TheVariant
 use Rattle.status_page.specs.declared.snapshot.DestSnapshot.{DestSnapshot}
 use Rattle.status_page.specs.declared.snapshot.ReceiverSnapshot.{ReceiverSnapshot}
 use Rattle.status_page.specs.declared.snapshot.Snapshot.{Snapshot}
+use Rattle.status_page.specs.LossWords.{loss_name}
 use Rattle.status_page.specs.Plain.{plain_text}
 
 unfoldable pub help_line : (name help : List ℕ) → List ℕ
@@ -261,16 +263,15 @@ rejection_metric receivers =
     ++ (reason_samples (codes "relayd_receiver_rejected_total") receiver.BadRows (codes "row") receivers
     ++ (reason_samples (codes "relayd_receiver_rejected_total") receiver.BadNames (codes "name") receivers))))
 
+-- what each receiver closed or lost for a reason
+unfoldable pub loss_samples : List ReceiverSnapshot → LossReason → List ℕ
+loss_samples receivers why = reason_samples (codes "relayd_receiver_lost_total") (receiver.Lost why) (loss_name why) receivers
+
 -- what each receiver closed or lost, by the reason
 unfoldable pub loss_metric : List ReceiverSnapshot → List ℕ
 loss_metric receivers =
     family_head (codes "relayd_receiver_lost_total") (codes "The connections that it closed and the datagrams that were lost, by the reason.") (codes "counter")
-    ++ (reason_samples (codes "relayd_receiver_lost_total") (receiver.Lost loss.Overlong) (codes "overlong") receivers
-    ++ (reason_samples (codes "relayd_receiver_lost_total") (receiver.Lost loss.Unfinished) (codes "unfinished") receivers
-    ++ (reason_samples (codes "relayd_receiver_lost_total") (receiver.Lost loss.Idle) (codes "idle") receivers
-    ++ (reason_samples (codes "relayd_receiver_lost_total") (receiver.Lost loss.MemoryShort) (codes "memory_short") receivers
-    ++ (reason_samples (codes "relayd_receiver_lost_total") (receiver.Lost loss.Broken) (codes "broken") receivers
-    ++ (reason_samples (codes "relayd_receiver_lost_total") (receiver.Lost loss.SystemDrop) (codes "system_drop") receivers))))))
+    ++ flat_map (loss_samples receivers) LOSS_REASONS
 
 -- the metrics of receivers
 unfoldable pub receiver_metrics : List ReceiverSnapshot → List ℕ

@@ -3,12 +3,13 @@
 ghost use Rattle.std.specs.Prelude.{◌≡◌, ◌++◌, OnOk};
 ghost use Rattle.std.specs.String.{string_bytes};
 ghost use Rattle.std.specs.List.{flat_map};
-ghost use Rattle.status_page.specs.Json.{listed, next_one, state_word, state_error, state_json, bad_json, accepted_json, received_json, receiver_name, receiver_json, losses_json, receiver_rates_json};
+ghost use Rattle.status_page.specs.Json.{listed, next_one, state_word, state_error, state_json, bad_json, accepted_json, received_json, receiver_name, receiver_json, loss_json, losses_json, receiver_rates_json};
 
 use crate::json::push_member;
+use crate::loss_words::loss_name;
 use crate::plain::plain;
 use crate::snapshot::ReceiverSnapshot;
-use log_lines::{LossCounts, ReceiverCounts, ReceiverState};
+use log_lines::{LOSS_REASONS, LossCounts, LossReason, ReceiverCounts, ReceiverState};
 use std::alloc::AllocError;
 use std::fmt::Write as _;
 
@@ -122,12 +123,17 @@ fn push_bad(text: &mut String, counts: &ReceiverCounts) -> Result<(), AllocError
 fn push_losses(text: &mut String, losses: &LossCounts) -> Result<(), AllocError>
     ensures { OnOk result (string_bytes text.new ≡ string_bytes text.old ++ losses_json losses.now) }
 {
-    push_member(text, "overlong", losses.overlong)?;
-    push_member(text, "unfinished", losses.unfinished)?;
-    push_member(text, "idle", losses.idle)?;
-    push_member(text, "memory_short", losses.memory_short)?;
-    push_member(text, "broken", losses.broken)?;
-    push_member(text, "system_drop", losses.system_drops)
+    for reason in LOSS_REASONS {
+        push_loss(text, losses, reason)?;
+    }
+    Ok(())
+}
+
+#[tactic(auto, unfolding(crate::specs::Json::loss_json))]
+fn push_loss(text: &mut String, losses: &LossCounts, reason: LossReason) -> Result<(), AllocError>
+    ensures { OnOk result (string_bytes text.new ≡ string_bytes text.old ++ loss_json losses.now reason) }
+{
+    push_member(text, loss_name(reason), losses.count_of(reason))
 }
 
 /// Adds how many connections it has taken, and what it counted in each second.

@@ -15,6 +15,7 @@ mod json;
 mod json_dests;
 mod json_producers;
 mod json_receivers;
+mod loss_words;
 mod metrics;
 mod numbers;
 mod page;

@@ -3,12 +3,13 @@
 ghost use Rattle.std.specs.Prelude.{◌≡◌, ◌++◌, OnOk};
 ghost use Rattle.std.specs.String.{string_bytes};
 ghost use Rattle.std.specs.List.{flat_map};
-ghost use Rattle.status_page.specs.Metrics.{open_number, receiver_value, receiver_label, receiver_sample, receiver_family, receiver_part, reason_part, reason_label, reason_sample, reason_samples, acceptance_metrics, old_refusal_metrics, rejection_metric, loss_metric, receiver_metrics};
+ghost use Rattle.status_page.specs.Metrics.{open_number, receiver_value, receiver_label, receiver_sample, receiver_family, receiver_part, reason_part, reason_label, reason_sample, reason_samples, acceptance_metrics, old_refusal_metrics, rejection_metric, loss_samples, loss_metric, receiver_metrics};
 
+use crate::loss_words::loss_name;
 use crate::metrics::{push_head, push_value};
 use crate::plain::plain;
 use crate::snapshot::ReceiverSnapshot;
-use log_lines::{LossReason, ReceiverState};
+use log_lines::{LOSS_REASONS, LossReason, ReceiverState};
 use std::alloc::AllocError;
 use std::fmt::Write as _;
 
@@ -154,53 +155,38 @@ fn push_rejections(text: &mut String, receivers: &[ReceiverSnapshot]) -> Result<
 fn push_losses(text: &mut String, receivers: &[ReceiverSnapshot]) -> Result<(), AllocError>
     ensures { OnOk result (string_bytes text.new ≡ string_bytes text.old ++ loss_metric receivers.now) }
 {
-    let name = "relayd_receiver_lost_total";
     push_head(
         text,
-        name,
+        "relayd_receiver_lost_total",
         "The connections that it closed and the datagrams that were lost, by the reason.",
         "counter",
     )?;
+    push_all_loss_samples(text, receivers)
+}
+
+fn push_all_loss_samples(text: &mut String, receivers: &[ReceiverSnapshot]) -> Result<(), AllocError>
+    ensures { OnOk result (string_bytes text.new
+        ≡ string_bytes text.old ++ flat_map (loss_samples receivers.now) LOSS_REASONS) }
+{
+    for reason in LOSS_REASONS {
+        push_loss_samples(text, receivers, reason)?;
+    }
+    Ok(())
+}
+
+#[tactic(auto, unfolding(crate::specs::Metrics::loss_samples))]
+fn push_loss_samples(
+    text: &mut String,
+    receivers: &[ReceiverSnapshot],
+    reason: LossReason,
+) -> Result<(), AllocError>
+    ensures { OnOk result (string_bytes text.new ≡ string_bytes text.old ++ loss_samples receivers.now reason) }
+{
     push_reason_samples(
         text,
-        name,
-        ReceiverMetric::Lost(LossReason::Overlong),
-        "overlong",
-        receivers,
-    )?;
-    push_reason_samples(
-        text,
-        name,
-        ReceiverMetric::Lost(LossReason::Unfinished),
-        "unfinished",
-        receivers,
-    )?;
-    push_reason_samples(
-        text,
-        name,
-        ReceiverMetric::Lost(LossReason::Idle),
-        "idle",
-        receivers,
-    )?;
-    push_reason_samples(
-        text,
-        name,
-        ReceiverMetric::Lost(LossReason::MemoryShort),
-        "memory_short",
-        receivers,
-    )?;
-    push_reason_samples(
-        text,
-        name,
-        ReceiverMetric::Lost(LossReason::Broken),
-        "broken",
-        receivers,
-    )?;
-    push_reason_samples(
-        text,
-        name,
-        ReceiverMetric::Lost(LossReason::SystemDrop),
-        "system_drop",
+        "relayd_receiver_lost_total",
+        ReceiverMetric::Lost(reason),
+        loss_name(reason),
         receivers,
     )
 }

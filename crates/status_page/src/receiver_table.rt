@@ -1,10 +1,11 @@
 //! The receivers, on the page: a row each.
 
 use crate::headline::{is_bad, is_deaf};
+use crate::loss_words::loss_words;
 use crate::numbers::{push_count, push_duration};
 use crate::plain::plain;
 use crate::snapshot::ReceiverSnapshot;
-use log_lines::ReceiverState;
+use log_lines::{LOSS_REASONS, ReceiverState};
 use std::alloc::AllocError;
 use std::fmt::Write as _;
 
@@ -90,45 +91,38 @@ fn push_bad(text: &mut String, receiver: &ReceiverSnapshot) -> Result<(), AllocE
 
 /// Adds how many datapoints were dropped on purpose, what connections it refused or closed, and what the system dropped.
 fn push_lost(text: &mut String, receiver: &ReceiverSnapshot) -> Result<(), AllocError> {
-    let losses = receiver.losses;
-    let kinds = [
-        (
-            receiver.counts.emptied,
-            " name emptied by rewriting",
-            " names emptied by rewriting",
-        ),
-        (
-            receiver.counts.refused,
-            " connection refused",
-            " connections refused",
-        ),
-        (losses.overlong, " too long", " too long"),
-        (
-            losses.unfinished,
-            " ended within a line or frame",
-            " ended within a line or frame",
-        ),
-        (losses.idle, " closed as idle", " closed as idle"),
-        (
-            losses.memory_short,
-            " closed as memory was short",
-            " closed as memory was short",
-        ),
-        (losses.broken, " broken", " broken"),
-        (
-            losses.system_drops,
-            " datagram dropped by the system",
-            " datagrams dropped by the system",
-        ),
-    ];
-    for (count, one, many) in &kinds {
-        if *count > 0 {
-            text.push_str("<br><small>")?;
-            push_kind(text, *count, one, many)?;
-            text.push_str("</small>")?;
-        }
+    push_small(
+        text,
+        receiver.counts.emptied,
+        " name emptied by rewriting",
+        " names emptied by rewriting",
+    )?;
+    push_small(
+        text,
+        receiver.counts.refused,
+        " connection refused",
+        " connections refused",
+    )?;
+    for reason in LOSS_REASONS {
+        let words = loss_words(reason);
+        push_small(
+            text,
+            receiver.losses.count_of(reason),
+            words.one,
+            words.many,
+        )?;
     }
     Ok(())
+}
+
+/// Adds a small line of a number with its words, if it is not 0.
+fn push_small(text: &mut String, count: u64, one: &str, many: &str) -> Result<(), AllocError> {
+    if count == 0 {
+        return Ok(());
+    }
+    text.push_str("<br><small>")?;
+    push_kind(text, count, one, many)?;
+    text.push_str("</small>")
 }
 
 /// Adds a number with its words, those for one or those for many, if it is not 0.
