@@ -1,5 +1,5 @@
 -- What the bytes of an admin connection ask for, at a port with a key.
-use Rattle.std.specs.Prelude.{ℕ, ◌+◌, ◌++◌, Bool, List, [], Option, None, Some, drop, codes, if◌then◌else◌}
+use Rattle.std.specs.Prelude.{ℕ, ◌+◌, ◌++◌, List, [], Option, None, Some, drop, codes, if◌then◌else◌}
 use Rattle.std.specs.List.{position}
 use Rattle.std.specs.Str.{bytes_eq}
 use Rattle.admin_client.specs.AdminCommand.{is_newline, command_text, command_in}

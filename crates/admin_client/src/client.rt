@@ -54,35 +54,6 @@ pub fn ask<R: Net + Clock, W: Write>(
     written
 }
 
-/// Asks a relay where it sends a metric of this name, and returns its answer, which `route_answer_in` reads. It refuses what
-/// [`answer_to`] refuses, and a name that is none, or that has more than [`LONGEST_ROUTED`](crate::LONGEST_ROUTED) bytes
-/// (`UnknownCommand`).
-pub fn route_answer_to<R: Net + Clock>(
-    rt: &R,
-    alloc: Global,
-    relay: RelayAt<'_>,
-    name: &[u8],
-) -> Result<Vec<u8>, AdminFault>
-    ensures ok { IfOk result (λ answer. IsAnswerTo AdminCommand.Route answer.items) }
-    ensures whole { IfOk result (λ answer. is_whole answer.items ≡ true) }
-{
-    answer_about(rt, alloc, relay, AdminCommand::Route, name)
-}
-
-/// Asks something of a watch of a relay ([`push_watch`](crate::push_watch)), and returns its answer, which `watch_answer_in`
-/// reads. It refuses what [`answer_to`] refuses.
-pub fn watch_answer_to<R: Net + Clock>(
-    rt: &R,
-    alloc: Global,
-    relay: RelayAt<'_>,
-    asked: &[u8],
-) -> Result<Vec<u8>, AdminFault>
-    ensures ok { IfOk result (λ answer. IsAnswerTo AdminCommand.Watch answer.items) }
-    ensures whole { IfOk result (λ answer. is_whole answer.items ≡ true) }
-{
-    answer_about(rt, alloc, relay, AdminCommand::Watch, asked)
-}
-
 /// Sends a command to a relay, and returns its answer. That to `reload` may take about a minute, and `reload_answer_in` reads
 /// it; `reload_files_in` reads that to `files`.
 ///
@@ -100,47 +71,52 @@ pub fn answer_to<R: Net + Clock>(
     answer_about(rt, alloc, relay, command, &[])
 }
 
-/// Sends a command about a name, or about an empty one, to a relay, and returns its answer.
-fn answer_about<R: Net + Clock>(
+/// Sends a command to a relay with what it asks about, and returns its answer: `route` asks about a metric name, and
+/// `route_answer_in` reads where the relay sends that; `watch` asks what [`push_watch`](crate::push_watch) writes, and
+/// `watch_answer_in` reads its answer. Other commands ask about nothing.
+///
+/// Refuses what [`answer_to`] refuses, and a name that is none, or that has more than
+/// [`LONGEST_ROUTED`](crate::LONGEST_ROUTED) bytes (`UnknownCommand`).
+pub fn answer_about<R: Net + Clock>(
     rt: &R,
     alloc: Global,
     relay: RelayAt<'_>,
     command: AdminCommand,
-    name: &[u8],
+    asked: &[u8],
 ) -> Result<Vec<u8>, AdminFault>
     ensures ok { IfOk result (λ answer. IsAnswerTo command answer.items) }
     ensures whole { IfOk result (λ answer. is_whole answer.items ≡ true) }
 {
-    match answer_once(rt, alloc, relay, command, name) {
+    match answer_once(rt, alloc, relay, command, asked) {
         Err(AdminFault::UnknownCommand) if relay.key.is_some() => {
-            answer_once(rt, alloc, relay.without_key(), command, name)
+            answer_once(rt, alloc, relay.without_key(), command, asked)
         }
-        asked => asked,
+        answer => answer,
     }
 }
 
-/// Sends a command about a name to a relay once, and returns its answer.
+/// Sends a command to a relay once, with what it asks about, and returns its answer.
 fn answer_once<R: Net + Clock>(
     rt: &R,
     alloc: Global,
     relay: RelayAt<'_>,
     command: AdminCommand,
-    name: &[u8],
+    asked: &[u8],
 ) -> Result<Vec<u8>, AdminFault>
     ensures ok { IfOk result (λ answer. IsAnswerTo command answer.items) }
     ensures whole { IfOk result (λ answer. is_whole answer.items ≡ true) }
 {
-    let request = request_of(alloc, relay.key, command, name)?;
-    let asked = match connect(rt, relay.port) {
+    let request = request_of(alloc, relay.key, command, asked)?;
+    let answer = match connect(rt, relay.port) {
         Ok(mut stream) => {
-            let asked = exchange(rt, alloc, &mut stream, command, request.as_slice());
+            let answer = exchange(rt, alloc, &mut stream, command, request.as_slice());
             drop(stream);
-            asked
+            answer
         }
         Err(fault) => Err(fault),
     };
     drop(request);
-    asked
+    answer
 }
 
 /// Stops a relay, copies its answer to the output, and returns when it has ended.

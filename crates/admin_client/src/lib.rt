@@ -4,9 +4,8 @@
 //! - [`stop_and_wait`] sends `stop`, copies the answer, and returns when the relay has ended.
 //! - [`answer_to`] sends a command and returns the answer: [`reload_answer_in`] reads that to `reload`, and
 //!   [`reload_files_in`] that to `files`.
-//! - [`route_answer_to`] asks where a metric goes: [`route_answer_in`] reads the answer.
-//! - [`watch_answer_to`] asks something of a watch: [`watch_answer_in`] reads the answer. [`push_watch`] writes what is asked,
-//!   and [`watch_request_in`] reads it.
+//! - [`answer_about`] asks where a metric goes, which [`route_answer_in`] reads, or something of a watch, which
+//!   [`watch_answer_in`] reads. [`push_watch`] writes what is asked of a watch, and [`watch_request_in`] reads it.
 //! - [`asked_in`] reads what a connection asks for, and [`files_answer`] makes the answer to `files`, for the relay's side.
 //!
 //! Each call takes some seconds at most for a relay that does not answer, and is proved safe and returning.
@@ -36,7 +35,7 @@ pub use admin_command::{
 };
 pub use admin_fault::AdminFault;
 pub use admin_key::{Asked, LEAST_KEY, LONGEST_KEY, WRONG_KEY, asked_in, behind_key, key_in};
-pub use client::{RelayAt, answer_to, ask, route_answer_to, stop_and_wait, watch_answer_to};
+pub use client::{RelayAt, answer_about, answer_to, ask, stop_and_wait};
 pub use reload_answer::{RELOADED, Refusal, ReloadAnswer, reload_answer_in};
 pub use reload_files::{ReloadFiles, can_be_named, files_answer, reload_files_in};
 pub use route_answer::{DROPPED, ROUTED, RouteAnswer, route_answer_in};

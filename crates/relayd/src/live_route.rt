@@ -7,7 +7,7 @@ use crate::names_lines::{WritesNames, write_names};
 use crate::open_files::Files;
 use crate::strict::input_at;
 use admin_client::{
-    AdminFault, LONGEST_ROUTED, RelayAt, RouteAnswer, route_answer_in, route_answer_to,
+    AdminCommand, AdminFault, LONGEST_ROUTED, RelayAt, RouteAnswer, answer_about, route_answer_in,
 };
 use command_line::{AdminAt, AskedNames, OutputForm, RouteOutput};
 use line_text::Name;
@@ -106,7 +106,7 @@ impl<'r> LiveRoutes<'r> {
         let asked = if name.len() > LONGEST_ROUTED {
             Err(AdminFault::LongName)
         } else {
-            route_answer_to(self.rt, self.alloc, self.relay, name)
+            answer_about(self.rt, self.alloc, self.relay, AdminCommand::Route, name)
         };
         match asked {
             Ok(answer) => Ok(answer),

@@ -5,8 +5,8 @@ use crate::admin_key::key_at;
 use crate::file_limit::limited_output;
 use crate::watching_output::{WatchTotals, push_counted, push_end, write_lines};
 use admin_client::{
-    AdminFault, LinesWatch, RelayAt, WatchAnswer, WatchRequest, push_watch, watch_answer_in,
-    watch_answer_to,
+    AdminCommand, AdminFault, LinesWatch, RelayAt, WatchAnswer, WatchRequest, answer_about,
+    push_watch, watch_answer_in,
 };
 use command_line::{AdminAt, OutputForm, WatchWanted, Watching};
 use relay_base::{utf8_text, whole_number_up_to};
@@ -158,7 +158,10 @@ impl<R: Wait + Clock> WatchClient<'_, R> {
         let mut asked = String::new(self.alloc);
         let pushed = push_watch(&mut asked, request);
         let answer = match pushed {
-            Ok(()) => watch_answer_to(self.rt, self.alloc, self.relay, asked.as_str().as_bytes()),
+            Ok(()) => {
+                let asked = asked.as_str().as_bytes();
+                answer_about(self.rt, self.alloc, self.relay, AdminCommand::Watch, asked)
+            }
             Err(fault) => Err(AdminFault::from(fault)),
         };
         drop(asked);
