@@ -9,7 +9,7 @@ use crate::spool_connector::SpoolConnector;
 use mio_loops::{SystemTimes, TimeSource};
 use relay_base::{DestId, NoMemory, add};
 use run_state::{BeginNote, DiskUser, Signals, ThreadWork};
-use senders::{Connect, HalfClose, Lookup, StoreConnector, StoreStream, WakeGate};
+use senders::{Connect, HalfClose, Lookup, StoreConnector, StoreStream, Stores, WakeGate};
 use spool::{KeptLines, SpoolBound, SpoolDisk, SpoolNotes};
 use std::alloc::{AllocError, Global};
 use std::net::Net;
@@ -199,7 +199,7 @@ where
             rt.sleep(Duration::from_millis(HALT_MS));
             continue;
         }
-        keeper.connector.about_to_wait();
+        keeper.connector.stores().about_to_wait();
         let pause = keeper.take_turn(times.millis());
         if keeper.connector.wait(pause).is_err() {
             rt.sleep(Duration::from_millis(MOST_WAIT_MS));
@@ -271,10 +271,10 @@ fn end_connections<R: Wait + Clock, N: Connect + Drop>(
     connector: &mut N,
     times: &SystemTimes<'_, R>,
 ) {
-    connector.end_writes();
+    connector.stores().end_writes();
     let end = times.millis().saturating_add(LONGEST_END_MS);
     for _ in rt.forever() {
-        let is_over = connector.is_quiet() || times.millis() >= end;
+        let is_over = connector.stores().is_quiet() || times.millis() >= end;
         if is_over || connector.wait(MOST_WAIT_MS).is_err() {
             return;
         }

@@ -11,7 +11,7 @@ use crate::spool_left::{SpooledLeft, spool_left};
 use mio_loops::{SystemTimes, TimeSource};
 use relay_base::DestId;
 use run_state::{DiskTurns, DiskUser, GoneEnd, Signals, ThreadWork};
-use senders::{Connect, HalfClose, StoreConnector};
+use senders::{Connect, HalfClose, StoreConnector, Stores};
 use spool::SpoolDisk;
 use std::alloc::{AllocError, Global};
 use std::net::Net;
@@ -144,7 +144,7 @@ fn send_until_over<R: Wait + Clock, N: Connect>(
     for _ in rt.forever() {
         let millis = times.millis();
         send_to_all(connector, gone, millis);
-        connector.about_to_wait();
+        connector.stores().about_to_wait();
         if !gone.are_sent_to(millis) || ends(signals) {
             return;
         }
@@ -188,11 +188,11 @@ fn end_connections<R: Wait + Clock, N: Connect>(
     if signals.is_handing() {
         return;
     }
-    connector.end_writes();
+    connector.stores().end_writes();
     let end = times.millis().saturating_add(LONGEST_END_MS);
     for _ in rt.forever() {
         let millis = times.millis();
-        let is_over = connector.is_quiet() || millis >= end || signals.is_handing();
+        let is_over = connector.stores().is_quiet() || millis >= end || signals.is_handing();
         if is_over || connector.wait(MOST_WAIT_MS).is_err() {
             return;
         }

@@ -15,7 +15,7 @@ use handover::{Rest, RestConnection};
 use mio_loops::{LeftBatch, LeftWriter, ReadinessFault};
 use relay_base::{DestId, MOST_DESTINATIONS, NoMemory, add};
 use run_state::{RestNotes, Signals};
-use senders::{Connect, KeptSocket};
+use senders::{Connect, HandOver, KeptSocket};
 use std::alloc::Global;
 use std::io::Write;
 
@@ -314,15 +314,17 @@ impl<'n, N: Connect + RestFiles> RestConnector<'n, N> {
 impl<'n, N: Connect + RestFiles + Drop> Connect for RestConnector<'n, N> {
     type Sink = N::Sink;
 
+    type Stores = N::Stores;
+
+    fn stores(&mut self) -> &mut N::Stores {
+        self.connector.stores()
+    }
+
     fn wait(&mut self, millis: u64) -> Result<&[DestId], ReadinessFault> {
         if self.rests.are_over() {
             return self.connector.wait(millis);
         }
         self.wait_beside_rests(millis)
-    }
-
-    fn about_to_wait(&mut self) {
-        self.connector.about_to_wait();
     }
 
     fn connect(&mut self, dest: DestId, millis: u64) -> Option<N::Sink> {
@@ -336,6 +338,19 @@ impl<'n, N: Connect + RestFiles + Drop> Connect for RestConnector<'n, N> {
         self.connector.has_closed(dest)
     }
 
+    fn take_back(&mut self, dest: DestId, sink: N::Sink) -> Option<KeptSocket> {
+        self.connector.take_back(dest, sink)
+    }
+
+    fn end(&mut self) {
+        for place in 0..self.rests.dests.len() {
+            self.leave(place);
+        }
+        self.connector.end();
+    }
+}
+
+impl<'n, N: Connect + RestFiles + Drop> HandOver for RestConnector<'n, N> {
     fn hands_over(&self) -> bool {
         self.signals.is_handing()
     }
@@ -354,32 +369,5 @@ impl<'n, N: Connect + RestFiles + Drop> Connect for RestConnector<'n, N> {
         };
         let rest = rest_in_hand(self.alloc, batch);
         self.share.slots.leave_rest(dest.0, rest, None, socket);
-    }
-
-    fn take_back(&mut self, dest: DestId, sink: N::Sink) -> Option<KeptSocket> {
-        self.connector.take_back(dest, sink)
-    }
-
-    fn end(&mut self) {
-        for place in 0..self.rests.dests.len() {
-            self.leave(place);
-        }
-        self.connector.end();
-    }
-
-    fn end_connection(&mut self, dest: DestId) {
-        self.connector.end_connection(dest);
-    }
-
-    fn has_ended(&self, dest: DestId) -> bool {
-        self.connector.has_ended(dest)
-    }
-
-    fn end_writes(&mut self) {
-        self.connector.end_writes();
-    }
-
-    fn is_quiet(&self) -> bool {
-        self.connector.is_quiet()
     }
 }
