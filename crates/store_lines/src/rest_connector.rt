@@ -221,24 +221,24 @@ fn rest_in_hand(alloc: Global, batch: LeftBatch) -> Rest
 /// When the sender ends, what is still left goes to the slots; and if another run follows, so does what the sender had in hand,
 /// with its connection.
 #[derive(Drop)]
-pub(crate) struct RestConnector<'n, N: Connect> {
+pub(crate) struct RestConnector<'n, 's, N: Connect> {
     connector: N,
     rests: SenderRests<'n, N::Sink>,
     share: Share<'n>,
-    signals: &'n Signals,
+    signals: &'s Signals,
     alloc: Global,
     ready: [DestId; MOST_DESTINATIONS],
 }
 
-impl<'n, N: Connect> RestConnector<'n, N> {
+impl<'n, 's, N: Connect> RestConnector<'n, 's, N> {
     /// Connects through `connector`, behind these rests, for a sender with this share of the destinations.
     pub(crate) fn new(
         alloc: Global,
         connector: N,
         rests: SenderRests<'n, N::Sink>,
         share: Share<'n>,
-        signals: &'n Signals,
-    ) -> RestConnector<'n, N> {
+        signals: &'s Signals,
+    ) -> RestConnector<'n, 's, N> {
         RestConnector {
             connector,
             rests,
@@ -292,7 +292,7 @@ pub(crate) trait RestFiles {
     fn spool_rest(&mut self, alloc: Global, dest: DestId, rest: Rest) -> SpooledRest;
 }
 
-impl<'n, N: Connect + RestFiles> RestConnector<'n, N> {
+impl<'n, 's, N: Connect + RestFiles> RestConnector<'n, 's, N> {
     /// Writes the first rest of a destination to the file, once, if it is to go there. Returns whether that is done: not while
     /// the disk may not be used.
     fn spool_first(&mut self, dest: DestId) -> bool {
@@ -311,7 +311,7 @@ impl<'n, N: Connect + RestFiles> RestConnector<'n, N> {
     }
 }
 
-impl<'n, N: Connect + RestFiles + Drop> Connect for RestConnector<'n, N> {
+impl<'n, 's, N: Connect + RestFiles + Drop> Connect for RestConnector<'n, 's, N> {
     type Sink = N::Sink;
 
     type Stores = N::Stores;
@@ -350,7 +350,7 @@ impl<'n, N: Connect + RestFiles + Drop> Connect for RestConnector<'n, N> {
     }
 }
 
-impl<'n, N: Connect + RestFiles + Drop> HandOver for RestConnector<'n, N> {
+impl<'n, 's, N: Connect + RestFiles + Drop> HandOver for RestConnector<'n, 's, N> {
     fn hands_over(&self) -> bool {
         self.signals.is_handing()
     }

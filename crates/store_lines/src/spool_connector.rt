@@ -40,7 +40,8 @@ where
     N::Sink: HalfClose,
 {
     /// Connects through `connector` to a sender's share, and reaches the files by `disk`, as this user. These signals say which
-    /// destinations' last connections are files.
+    /// destinations' last connections are files: those of senders alone. What the other users have not sent, somebody else writes
+    /// to files.
     pub(crate) fn new(
         connector: N,
         disk: D,
@@ -54,16 +55,9 @@ where
             files: SenderFiles::new(spool, disk, DiskTurns::new(signals, user)),
             slots: share.slots,
             signals,
-            may_spool: true,
+            may_spool: matches!(user, DiskUser::Sender(_)),
             ready: [DestId(0); MOST_DESTINATIONS],
         }
-    }
-
-    /// No connection is a file: somebody else writes to files what is not sent.
-    pub(crate) fn without_files(self) -> SpoolConnector<'n, 's, N, D> {
-        let mut connector = self;
-        connector.may_spool = false;
-        connector
     }
 
     /// Begins a turn. Returns whether it may use the disk until the next one begins.
