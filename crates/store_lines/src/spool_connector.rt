@@ -40,8 +40,8 @@ where
     N::Sink: HalfClose,
 {
     /// Connects through `connector` to a sender's share, and reaches the files by `disk`, as this user. These signals say which
-    /// destinations' last connections are files: those of senders alone. What the other users have not sent, somebody else writes
-    /// to files.
+    /// destinations' last connections are files. Only a sender gives those out: what the other users have not sent is written to
+    /// files elsewhere.
     pub(crate) fn new(
         connector: N,
         disk: D,
