@@ -53,6 +53,8 @@ class Heads(unittest.TestCase):
 
     def test_the_order_of_connectors(self):
         """That which takes what writers have in hand is around those that do not pass it on."""
-        text, = (text for _, text in program_sources() if "\nfn send_own<" in text)
-        made = re.findall(r"(\w+)Connector::\s*new\(", text)
+        first, = (text for _, text in program_sources() if "\npub(crate) struct FirstLines<" in text)
+        own, = (text for _, text in program_sources() if "\nfn send_own<" in text)
+        self.assertLess(own.index("first.into_connector("), own.index("CountedConnector::new(connector, "))
+        made = re.findall(r"(\w+)Connector::\s*new\(", first + own)
         self.assertEqual(made, ["Divert", "Spool", "Rest", "Counted"])

@@ -11,7 +11,7 @@ use receivers::{
     receive_streams,
 };
 use relay_base::DestId;
-use senders::{BatchSender, Connect, KeptSocket, send_batches};
+use senders::{BatchSender, Connect, HandOver, KeptSocket, Stores, send_batches};
 use std::alloc::Global;
 use std::io;
 use std::io::{Read, Write};
@@ -191,6 +191,12 @@ struct OneConnector {
 impl Connect for OneConnector {
     type Sink = Taking;
 
+    type Stores = OneConnector;
+
+    fn stores(&mut self) -> &mut OneConnector {
+        self
+    }
+
     fn wait(&mut self, _millis: u64) -> Result<&[DestId], ReadinessFault> {
         if self.has_waited {
             return Err(ReadinessFault::Device);
@@ -198,8 +204,6 @@ impl Connect for OneConnector {
         self.has_waited = true;
         Ok(&[])
     }
-
-    fn about_to_wait(&mut self) {}
 
     fn connect(&mut self, _dest: DestId, _millis: u64) -> Option<Taking> {
         if self.is_connected {
@@ -213,17 +217,23 @@ impl Connect for OneConnector {
         false
     }
 
-    fn hands_over(&self) -> bool {
-        false
-    }
-
-    fn hand_over(&mut self, _dest: DestId, _left: LeftWriter<Taking>) {}
-
     fn take_back(&mut self, _dest: DestId, _sink: Taking) -> Option<KeptSocket> {
         None
     }
 
     fn end(&mut self) {}
+}
+
+impl HandOver for OneConnector {
+    fn hands_over(&self) -> bool {
+        false
+    }
+
+    fn hand_over(&mut self, _dest: DestId, _left: LeftWriter<Taking>) {}
+}
+
+impl Stores for OneConnector {
+    fn about_to_wait(&mut self) {}
 
     fn end_connection(&mut self, _dest: DestId) {}
 

@@ -12,14 +12,17 @@ pub trait Connect {
     /// A connection.
     type Sink: Write + Drop;
 
+    /// The innermost connector.
+    type Stores: Stores;
+
+    /// The innermost connector: this one, or that of the connector that it connects through.
+    fn stores(&mut self) -> &mut Self::Stores;
+
     /// Waits until a connection is ready or was made, or this number of milliseconds has passed, and returns the
     /// destinations of those that are ready, each once. It ends early if a datapoint was offered after
-    /// [`Connect::about_to_wait`]. It takes no memory, and refuses (`Device`) only what the system refuses.
+    /// [`Stores::about_to_wait`]. It takes no memory, and refuses (`Device`) only what the system refuses.
     fn wait(&mut self, millis: u64) -> Result<&[DestId], ReadinessFault>
         ensures device { IfErr result (λ fault. fault ≡ ReadinessFault.Device) };
-
-    /// From now on, until the next wait has ended, an offer ends that wait.
-    fn about_to_wait(&mut self);
 
     /// Begins to connect to a destination, or goes on with that, and returns the connection once it is made. Call
     /// it while the destination has no connection, with the milliseconds of a clock that never falls. A try begins
@@ -30,19 +33,28 @@ pub trait Connect {
     /// more.
     fn has_closed(&self, dest: DestId) -> bool;
 
-    /// Whether what the sender leaves goes on elsewhere: then no connection is half-closed, and none is waited for.
-    fn hands_over(&self) -> bool;
-
-    /// Takes what a sender that was stopped leaves of a destination: its writer, with the batch in hand, and the connection.
-    /// Called once for each destination, in their order. A connector that hands nothing on drops it.
-    fn hand_over(&mut self, dest: DestId, left: LeftWriter<Self::Sink>);
-
     /// Gives up the connection of a destination for another sender, and returns its socket. `None` if it takes no more, or if
     /// the connector hands nothing on; the connection is closed then.
     fn take_back(&mut self, dest: DestId, sink: Self::Sink) -> Option<KeptSocket>;
 
     /// The sender has ended, and asks for nothing more: what is still held for its destinations goes on elsewhere, if it does.
     fn end(&mut self);
+}
+
+/// A connector to which a stopped sender leaves what it had in hand.
+pub trait HandOver: Connect {
+    /// Whether what the sender leaves goes on elsewhere: then no connection is half-closed, and none is waited for.
+    fn hands_over(&self) -> bool;
+
+    /// Takes what a sender that was stopped leaves of a destination: its writer, with the batch in hand, and the connection.
+    /// Called once for each destination, in their order. A connector that hands nothing on drops it.
+    fn hand_over(&mut self, dest: DestId, left: LeftWriter<Self::Sink>);
+}
+
+/// What the innermost connector does for all that connect through it, which reach it by [`Connect::stores`].
+pub trait Stores {
+    /// From now on, until the next wait has ended, an offer ends that wait.
+    fn about_to_wait(&mut self);
 
     /// The sender gives up the connection of a destination, which is no loss: its peer sees the end once it has read what was
     /// written. Call it before the connection is dropped.

@@ -1,6 +1,6 @@
 //! Sender threads: each connects to its destinations, takes batches from their queues, and writes them.
 //!
-//! [`send_batches`] is the work of one thread, over any [`Connect`] and any supply of batches. [`StoreConnector`]
+//! [`send_batches`] is the work of one thread, over any [`HandOver`] and any supply of batches. [`StoreConnector`]
 //! connects by the system's sockets, and looks hosts up in threads of their own. A sender waits for its sockets and
 //! for its [`Alarm`], which a [`WakeGate`] rings under a queue's lock.
 //!
@@ -32,7 +32,7 @@ mod wake_gate;
 mod wire;
 
 pub use alarm::Alarm;
-pub use connect::{Connect, KeptSocket};
+pub use connect::{Connect, HandOver, KeptSocket, Stores};
 pub use dest_list::copy_list;
 pub use host_addresses::HostAddresses;
 pub use host_lookup::{HostLookup, HostThreads};

@@ -5,7 +5,7 @@ ghost use Rattle.queue_records.specs.Takes.{IsHandedBy};
 ghost use Rattle.senders.specs.Steps.{AllUpOwned, SomeProgress};
 ghost use Rattle.senders.specs.Record.{SenderEnds, EndsFor, AreNone};
 
-use crate::connect::Connect;
+use crate::connect::{Connect, HandOver, Stores};
 use crate::counted_supply::CountedSupply;
 use crate::turn::take_turn;
 use mio_loops::{LeftTaker, LeftWriter, ReadinessFault, StopFlag, TimeSource, WriteLog, WriteLoop};
@@ -19,11 +19,11 @@ const LONGEST_END_MS: u64 = 1_000;
 
 /// Takes batches of the destinations that the supply owns, and writes them to their connections, until the
 /// stop flag is set: the sender ends after the turn that sees it. It does not write what is still queued or
-/// in hand: the connector is given that ([`Connect::hand_over`]).
+/// in hand: the connector is given that ([`HandOver::hand_over`]).
 ///
 /// There are 1 to [`MOST_DESTS`] destinations, and the limit of a batch is 1 to [`LARGEST_MESSAGE`]. It ends early if
 /// the loop finds no memory at its beginning (`NoMemory`), and if a wait of the connector fails (`Device`).
-pub fn send_batches<R: Wait, N: Connect + Drop, S: Supply + Drop, T: TimeSource, F: StopFlag>(
+pub fn send_batches<R: Wait, N: HandOver + Drop, S: Supply + Drop, T: TimeSource, F: StopFlag>(
     rt: &R,
     alloc: Global,
     sender: BatchSender<N, S>,
@@ -96,7 +96,7 @@ struct ToConnector<'c, N> {
     connector: &'c mut N,
 }
 
-impl<N: Connect> LeftTaker<N::Sink> for ToConnector<'_, N> {
+impl<N: HandOver> LeftTaker<N::Sink> for ToConnector<'_, N> {
     fn take_left(&mut self, dest: DestId, left: LeftWriter<N::Sink>)
         ensures { Unit {0} }
     {
@@ -106,15 +106,15 @@ impl<N: Connect> LeftTaker<N::Sink> for ToConnector<'_, N> {
 
 /// Half-closes the connections, and waits until no peer may still send something, for [`LONGEST_END_MS`] at most. Does nothing
 /// if the connections go on elsewhere.
-fn end_connections<R: Wait, N: Connect, T: TimeSource>(rt: &R, connector: &mut N, times: &T) {
+fn end_connections<R: Wait, N: HandOver, T: TimeSource>(rt: &R, connector: &mut N, times: &T) {
     if connector.hands_over() {
         return;
     }
-    connector.end_writes();
+    connector.stores().end_writes();
     let end = times.millis().saturating_add(LONGEST_END_MS);
     for _ in rt.forever() {
         let millis = times.millis();
-        if connector.is_quiet() || millis >= end || connector.wait(end - millis).is_err() {
+        if connector.stores().is_quiet() || millis >= end || connector.wait(end - millis).is_err() {
             return;
         }
     }

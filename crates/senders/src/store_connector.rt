@@ -1,7 +1,7 @@
 //! Connects to the stores that destinations name, by the system's sockets.
 
 use crate::alarm::Alarm;
-use crate::connect::{Connect, KeptSocket};
+use crate::connect::{Connect, KeptSocket, Stores};
 use crate::host_lookup::{HostLookup, HostThreads};
 use crate::link::{Link, LinkTry};
 use crate::lookup::Lookup;
@@ -11,7 +11,7 @@ use crate::store_stream::StoreStream;
 use crate::wire::Wire;
 use log_lines::{DestNotes, Why};
 use mio::net::TcpStream;
-use mio_loops::{LeftWriter, Readiness, ReadinessFault, Token};
+use mio_loops::{Readiness, ReadinessFault, Token};
 use relay_base::{DestId, NoMemory};
 use std::alloc::Global;
 use std::net::Net;
@@ -237,6 +237,12 @@ fn note_failed(links: &[Option<Link>], notes: &[DestNotes]) {
 impl<'g, R: Net + Drop, L: Lookup + Drop> Connect for StoreConnector<'g, R, L> {
     type Sink = StoreStream<'g>;
 
+    type Stores = StoreConnector<'g, R, L>;
+
+    fn stores(&mut self) -> &mut StoreConnector<'g, R, L> {
+        self
+    }
+
     fn wait(&mut self, millis: u64) -> Result<&[DestId], ReadinessFault> {
         self.ready.clear();
         self.alarm.begin_wait();
@@ -250,10 +256,6 @@ impl<'g, R: Net + Drop, L: Lookup + Drop> Connect for StoreConnector<'g, R, L> {
         note_closed(self.readiness.closed(), &mut self.links);
         read_away(&mut self.links);
         Ok(self.ready.as_slice())
-    }
-
-    fn about_to_wait(&mut self) {
-        self.alarm.set();
     }
 
     fn connect(&mut self, dest: DestId, millis: u64) -> Option<StoreStream<'g>> {
@@ -281,12 +283,6 @@ impl<'g, R: Net + Drop, L: Lookup + Drop> Connect for StoreConnector<'g, R, L> {
         closed.iter().any(|token| token.0 == dest.0) || is_over(&self.links, dest)
     }
 
-    fn hands_over(&self) -> bool {
-        false
-    }
-
-    fn hand_over(&mut self, _dest: DestId, _left: LeftWriter<StoreStream<'g>>) {}
-
     fn take_back(&mut self, dest: DestId, sink: StoreStream<'g>) -> Option<KeptSocket> {
         let kept = self.take_socket(dest, sink.give_up());
         if kept.is_none() {
@@ -296,6 +292,12 @@ impl<'g, R: Net + Drop, L: Lookup + Drop> Connect for StoreConnector<'g, R, L> {
     }
 
     fn end(&mut self) {}
+}
+
+impl<'g, R: Net + Drop, L: Lookup + Drop> Stores for StoreConnector<'g, R, L> {
+    fn about_to_wait(&mut self) {
+        self.alarm.set();
+    }
 
     fn end_connection(&mut self, dest: DestId) {
         if let Some(Some(link)) = self.links.get_mut(dest.0) {

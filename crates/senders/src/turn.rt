@@ -4,7 +4,7 @@ ghost use Rattle.mio_loops.specs.WriteLoop.{is_up_at};
 ghost use Rattle.queue_records.specs.Takes.{IsHandedBy};
 ghost use Rattle.senders.specs.Steps.{AllUpOwned, ConnectionsProgress, SomeProgress};
 
-use crate::connect::Connect;
+use crate::connect::{Connect, Stores};
 use crate::counted_supply::{CountedSupply, TakeSize};
 use crate::dest_list::copy_list;
 use mio_loops::{ReadinessFault, WriteLoop};
@@ -60,7 +60,7 @@ fn serve_before_wait<N: Connect, S: Supply>(
     if let Some(pause) = serve_due(writes, supply) {
         return pause;
     }
-    connector.about_to_wait();
+    connector.stores().about_to_wait();
     serve_due(writes, supply).unwrap_or(LONGEST_WAIT_MS)
 }
 

@@ -5,7 +5,7 @@ ghost use Rattle.std.specs.Prelude.{◌≡◌, IfErr};
 use mio_loops::{LeftWriter, ReadinessFault};
 use relay_base::{DestId, MOST_DESTINATIONS};
 use run_state::{BeginNote, EndState};
-use senders::{Connect, KeptSocket};
+use senders::{Connect, HandOver, KeptSocket};
 use spool::lines_in;
 use std::io;
 use std::io::Write;
@@ -62,16 +62,18 @@ impl<'c, 's, N: Connect> CountedConnector<'c, 's, N> {
 impl<'c, 's, N: Connect> Connect for CountedConnector<'c, 's, N> {
     type Sink = CountedSink<'c, N::Sink>;
 
+    type Stores = N::Stores;
+
+    fn stores(&mut self) -> &mut N::Stores {
+        self.connector.stores()
+    }
+
     fn wait(&mut self, millis: u64) -> Result<&[DestId], ReadinessFault> {
         self.note.note_wait();
         if self.note.is_receiving_over() {
             return self.wait_for_all(millis);
         }
         self.connector.wait(millis)
-    }
-
-    fn about_to_wait(&mut self) {
-        self.connector.about_to_wait();
     }
 
     fn connect(&mut self, dest: DestId, millis: u64) -> Option<CountedSink<'c, N::Sink>> {
@@ -88,6 +90,16 @@ impl<'c, 's, N: Connect> Connect for CountedConnector<'c, 's, N> {
         self.connector.has_closed(dest)
     }
 
+    fn take_back(&mut self, dest: DestId, sink: CountedSink<'c, N::Sink>) -> Option<KeptSocket> {
+        self.connector.take_back(dest, sink.into_sink())
+    }
+
+    fn end(&mut self) {
+        self.connector.end();
+    }
+}
+
+impl<'c, 's, N: HandOver> HandOver for CountedConnector<'c, 's, N> {
     fn hands_over(&self) -> bool {
         self.connector.hands_over()
     }
@@ -99,30 +111,6 @@ impl<'c, 's, N: Connect> Connect for CountedConnector<'c, 's, N> {
             None => None,
         };
         self.connector.hand_over(dest, LeftWriter { batch, sink });
-    }
-
-    fn take_back(&mut self, dest: DestId, sink: CountedSink<'c, N::Sink>) -> Option<KeptSocket> {
-        self.connector.take_back(dest, sink.into_sink())
-    }
-
-    fn end(&mut self) {
-        self.connector.end();
-    }
-
-    fn end_connection(&mut self, dest: DestId) {
-        self.connector.end_connection(dest);
-    }
-
-    fn has_ended(&self, dest: DestId) -> bool {
-        self.connector.has_ended(dest)
-    }
-
-    fn end_writes(&mut self) {
-        self.connector.end_writes();
-    }
-
-    fn is_quiet(&self) -> bool {
-        self.connector.is_quiet()
     }
 }
 

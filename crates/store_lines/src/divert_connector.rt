@@ -5,10 +5,10 @@ ghost use Rattle.std.specs.Prelude.{◌≡◌, IfErr};
 use crate::diversions::{DivertTo, QueueLevels};
 use crate::divert_sink::{DivertSink, IntakeSink};
 use crate::sender_places::Share;
-use mio_loops::{LeftWriter, ReadinessFault};
+use mio_loops::ReadinessFault;
 use relay_base::{DestId, MOST_DESTINATIONS};
 use run_state::Signals;
-use senders::{Connect, KeptSocket, copy_list};
+use senders::{Connect, KeptSocket, Stores, copy_list};
 use spool::Intake;
 use std::sync::Wait;
 
@@ -228,7 +228,7 @@ impl<'n, 's, N: Connect, R: Wait + Copy + Drop, Q: QueueLevels> DivertConnector<
         };
         match self.given(dest) {
             Given::Store if self.is_given_up(dest, intake) => {
-                self.connector.end_connection(dest);
+                self.connector.stores().end_connection(dest);
                 intake.note_store_busy(true);
                 self.give(dest, Given::Ending);
                 true
@@ -244,11 +244,14 @@ impl<'n, 's, N: Connect, R: Wait + Copy + Drop, Q: QueueLevels> DivertConnector<
     }
 
     /// Notes whether the store of a destination has ended the connection that was given up, if one was.
-    fn note_end(&self, dest: DestId, to: DivertTo<'n>) {
+    fn note_end(&mut self, dest: DestId, to: DivertTo<'n>) {
         let Some(intake) = self.intake(dest) else {
             return;
         };
-        if self.share.has(dest.0) && intake.is_store_busy() && self.connector.has_ended(dest) {
+        if self.share.has(dest.0)
+            && intake.is_store_busy()
+            && self.connector.stores().has_ended(dest)
+        {
             intake.note_store_busy(false);
             to.gate.wake_all();
         }
@@ -272,15 +275,17 @@ impl<'n, 's, N: Connect + Drop, R: Wait + Copy + Drop, Q: QueueLevels + Drop> Co
     for DivertConnector<'n, 's, N, R, Q> {
     type Sink = DivertSink<'n, N::Sink, R>;
 
+    type Stores = N::Stores;
+
+    fn stores(&mut self) -> &mut N::Stores {
+        self.connector.stores()
+    }
+
     fn wait(&mut self, millis: u64) -> Result<&[DestId], ReadinessFault> {
         match self.to {
             Some(to) => self.wait_beside_intakes(millis, to),
             None => self.connector.wait(millis),
         }
-    }
-
-    fn about_to_wait(&mut self) {
-        self.connector.about_to_wait();
     }
 
     fn connect(&mut self, dest: DestId, millis: u64) -> Option<DivertSink<'n, N::Sink, R>> {
@@ -320,13 +325,6 @@ impl<'n, 's, N: Connect + Drop, R: Wait + Copy + Drop, Q: QueueLevels + Drop> Co
         }
     }
 
-    // What writers have in hand is for the connector around this one.
-    fn hands_over(&self) -> bool {
-        false
-    }
-
-    fn hand_over(&mut self, _dest: DestId, _left: LeftWriter<DivertSink<'n, N::Sink, R>>) {}
-
     fn take_back(&mut self, dest: DestId, sink: DivertSink<'n, N::Sink, R>) -> Option<KeptSocket> {
         match sink {
             DivertSink::Store { sink, .. } => self.connector.take_back(dest, sink),
@@ -339,21 +337,5 @@ impl<'n, 's, N: Connect + Drop, R: Wait + Copy + Drop, Q: QueueLevels + Drop> Co
 
     fn end(&mut self) {
         self.connector.end();
-    }
-
-    fn end_connection(&mut self, dest: DestId) {
-        self.connector.end_connection(dest);
-    }
-
-    fn has_ended(&self, dest: DestId) -> bool {
-        self.connector.has_ended(dest)
-    }
-
-    fn end_writes(&mut self) {
-        self.connector.end_writes();
-    }
-
-    fn is_quiet(&self) -> bool {
-        self.connector.is_quiet()
     }
 }

@@ -3,13 +3,14 @@
 use crate::dest_carry_over::DestCarryOver;
 use crate::diversions::Diversions;
 use crate::keeper::{Keeper, KeeperRoom, KeptDest};
+use crate::last_wait::end_connections;
 use crate::sender_places::Share;
 use crate::sender_spool::SenderSpool;
 use crate::spool_connector::SpoolConnector;
 use mio_loops::{SystemTimes, TimeSource};
 use relay_base::{DestId, NoMemory, add};
 use run_state::{BeginNote, DiskUser, Signals, ThreadWork};
-use senders::{Connect, HalfClose, Lookup, StoreConnector, StoreStream, WakeGate};
+use senders::{Connect, HalfClose, Lookup, StoreConnector, StoreStream, Stores, WakeGate};
 use spool::{KeptLines, SpoolBound, SpoolDisk, SpoolNotes};
 use std::alloc::{AllocError, Global};
 use std::net::Net;
@@ -18,11 +19,8 @@ use std::sync::Wait;
 use std::sync::atomic::AtomicU64;
 use std::time::{Duration, Instant};
 
-/// How many milliseconds the stores have to read to their end once nothing more is sent.
-const LONGEST_END_MS: u64 = 1_000;
-
-/// For how many milliseconds a wait lasts at most meanwhile, and after how many one that failed is tried again.
-const MOST_WAIT_MS: u64 = 10;
+/// After how many milliseconds a wait that failed is tried again.
+const RETRY_WAIT_MS: u64 = 10;
 
 /// After how many milliseconds a keeper that does nothing looks again whether it is to go on, or to stop.
 const HALT_MS: u64 = 1;
@@ -154,9 +152,7 @@ impl<'x, R: Wait + Clock + Net + SpoolDisk + Copy + Drop> ThreadWork<R, ()> for 
         places.take_files(rt, &share, &mut connector, times.millis());
         let KeeperPlaces { spool, dests, used } = places;
         let user = DiskUser::Keeper;
-        let connector = SpoolConnector::new(
-            connector, *rt, spool, &share, signals, user,
-        ).without_files();
+        let connector = SpoolConnector::new(connector, *rt, spool, &share, signals, user);
         let mut keeper = Keeper {
             connector,
             disk: *rt,
@@ -199,10 +195,10 @@ where
             rt.sleep(Duration::from_millis(HALT_MS));
             continue;
         }
-        keeper.connector.about_to_wait();
+        keeper.connector.stores().about_to_wait();
         let pause = keeper.take_turn(times.millis());
         if keeper.connector.wait(pause).is_err() {
-            rt.sleep(Duration::from_millis(MOST_WAIT_MS));
+            rt.sleep(Duration::from_millis(RETRY_WAIT_MS));
         }
     }
     unreachable!()
@@ -231,7 +227,7 @@ where
     if is_handing {
         return;
     }
-    end_connections(rt, &mut keeper.connector, times);
+    end_connections(rt, &mut keeper.connector, times, keeper.signals);
     for place in 0..keeper.dests.len() {
         keeper.sync(place);
     }
@@ -263,21 +259,4 @@ where
     } else if let Some(notes) = keeper.notes.get(place) {
         notes.note_left_out(dest.lines.datapoints());
     }
-}
-
-/// Half-closes the connections, and waits until no store may still send something.
-fn end_connections<R: Wait + Clock, N: Connect + Drop>(
-    rt: &R,
-    connector: &mut N,
-    times: &SystemTimes<'_, R>,
-) {
-    connector.end_writes();
-    let end = times.millis().saturating_add(LONGEST_END_MS);
-    for _ in rt.forever() {
-        let is_over = connector.is_quiet() || times.millis() >= end;
-        if is_over || connector.wait(MOST_WAIT_MS).is_err() {
-            return;
-        }
-    }
-    unreachable!()
 }

@@ -6,11 +6,8 @@ ghost use Rattle.senders.specs.Record.{SenderEnds, EndsFor};
 
 use crate::counted_connector::CountedConnector;
 use crate::diversions::{DivertTo, QueueLevels};
-use crate::divert_connector::DivertConnector;
-use crate::rest_connector::{RestConnector, SenderRests};
+use crate::first_lines::{FirstLines, SenderStart};
 use crate::sender_places::{SenderPlaces, Share};
-use crate::sender_spool::SenderSpool;
-use crate::spool_connector::{SpoolConnector, SpoolSink};
 use mio_loops::TimeSource;
 use queue_records::Supply;
 use run_state::{BeginNote, DiskUser, EndState, Signals};
@@ -50,9 +47,7 @@ impl<'x, R: Wait + Clock + Net + SpoolDisk + Copy + Drop, Q: QueueLevels + Drop>
 > {
     /// Sends until the senders' stop flag is set, or a fault, by [`send_batches`].
     ///
-    /// A connection goes to the file that is still to be sent, then to the rest, then to the batches. So that which knows of rests
-    /// is outside: it takes what the writers have in hand when another run follows. That which diverts is innermost: for the others
-    /// an intake is a connection as any.
+    /// A connection goes to the file that is still to be sent, then to the rest, then to the batches.
     pub fn send<S: Supply + Drop, T: TimeSource>(
         self,
         rt: &R,
@@ -67,51 +62,42 @@ impl<'x, R: Wait + Clock + Net + SpoolDisk + Copy + Drop, Q: QueueLevels + Drop>
             (S.record_of result.outlet) }
     {
         let LineSender {
-            mut connector,
-            mut places,
+            connector,
+            places,
             share,
             limit,
             divert,
             levels,
             end,
         } = self;
-        let kept = places.take_lefts(rt, &share, &mut connector, divert, times.millis());
-        let connector = DivertConnector::new(
-            connector, *rt, levels, divert, share, signals,
-        ).with_kept(&kept);
-        let SenderPlaces { spool, rests } = places;
-        let first = FirstLines {
-            connector,
-            spool,
-            rests,
-            user: DiskUser::Sender(share.sender),
-            share,
-            signals,
+        let own = OwnLines {
+            supply,
+            dests: share.dests,
+            limit,
+            end,
         };
-        let own = OwnLines { supply, limit, end };
-        send_own(rt, alloc, first, own, times)
+        let start = SenderStart {
+            connector,
+            places,
+            share,
+            divert,
+            levels,
+        };
+        let user = DiskUser::Sender(share.sender);
+        let first = start.take_lefts(rt, signals, user, times.millis());
+        send_own(rt, alloc, first, own, times, signals)
     }
 }
 
-/// What connects to a sender's destinations, and what is left for each: files, and rests; the signals of the run, and who uses
-/// the files.
-#[derive(Drop)]
-pub(crate) struct FirstLines<'n, 's, N: Connect, D: SpoolDisk + Drop> {
-    pub(crate) connector: N,
-    pub(crate) spool: SenderSpool<'n, N::Sink>,
-    pub(crate) rests: SenderRests<'n, SpoolSink<'n, N::Sink, D>>,
-    pub(crate) share: Share<'n>,
-    pub(crate) signals: &'s Signals,
-    pub(crate) user: DiskUser,
-}
-
-/// A sender's own lines: those of a supply, so many datapoints in a batch at most, and where it is counted what the connections
-/// take.
+/// A sender's own lines: those of a supply to so many destinations, so many datapoints in a batch at most, and where it is counted
+/// what the connections take.
 #[derive(Drop)]
 struct OwnLines<'x, S> {
     supply: S,
+    dests: usize,
     limit: usize,
     end: Option<&'x EndState>,
+    ghost few: { (1 ≤ dests) × (dests ≤ 64) },
     ghost most: { (1 ≤ limit) × (limit ≤ 10000) },
 }
 
@@ -129,27 +115,22 @@ fn send_own<
     first: FirstLines<'n, 's, N, R>,
     own: OwnLines<'n, S>,
     times: &T,
+    signals: &Signals,
 ) -> SenderRecord<S>
 where
     N::Sink: HalfClose + Drop,
-    requires few { (1 ≤ first.share.dests) × (first.share.dests ≤ 64) }
-    ensures ran { SenderEnds (IsHandedBy S.record_of S.may_hand) first.entry.share.dests own.entry.limit
+    ensures ran { SenderEnds (IsHandedBy S.record_of S.may_hand) own.entry.dests own.entry.limit
         result.fault result.logs.items (S.record_of own.entry.supply) (S.record_of result.outlet) }
     ensures fault { EndsFor result.fault result.logs.items (S.record_of own.entry.supply)
         (S.record_of result.outlet) }
 {
-    let FirstLines {
-        connector,
-        spool,
-        rests,
-        share,
-        signals,
-        user,
-    } = first;
-    let OwnLines { supply, limit, end } = own;
-    let dests = share.dests;
-    let connector = SpoolConnector::new(connector, *rt, spool, &share, signals, user);
-    let connector = RestConnector::new(alloc, connector, rests, share, signals);
+    let OwnLines {
+        supply,
+        dests,
+        limit,
+        end,
+    } = own;
+    let connector = first.into_connector(*rt, alloc);
     let connector = CountedConnector::new(connector, end, BeginNote::new(signals));
     let sender = BatchSender {
         connector,

@@ -1,17 +1,15 @@
 //! The work of the thread that sends to destinations that are gone.
 
 use crate::diversions::NoLevels;
-use crate::divert_connector::DivertConnector;
+use crate::first_lines::{FirstLines, SenderStart};
 use crate::gone_dests::GoneDests;
-use crate::line_sender::FirstLines;
-use crate::rest_connector::RestConnector;
+use crate::last_wait::end_connections;
 use crate::sender_places::{SenderPlaces, Share};
-use crate::spool_connector::SpoolConnector;
 use crate::spool_left::{SpooledLeft, spool_left};
 use mio_loops::{SystemTimes, TimeSource};
 use relay_base::DestId;
 use run_state::{DiskTurns, DiskUser, GoneEnd, Signals, ThreadWork};
-use senders::{Connect, HalfClose, StoreConnector};
+use senders::{Connect, HalfClose, StoreConnector, Stores};
 use spool::SpoolDisk;
 use std::alloc::{AllocError, Global};
 use std::net::Net;
@@ -21,9 +19,6 @@ use std::time::{Duration, Instant};
 
 /// For how many milliseconds a wait lasts at most: so late a try to connect begins.
 const MOST_WAIT_MS: u64 = 10;
-
-/// How many milliseconds the stores have to read to their end once nothing more is sent.
-const LONGEST_END_MS: u64 = 1_000;
 
 /// The milliseconds between two looks whether it may use the disk.
 const TURN_MS: u64 = 1;
@@ -54,8 +49,8 @@ impl<'x, R: Wait + Clock + Net + SpoolDisk + Copy + Drop> ThreadWork<R, ()> for 
     fn work(self, rt: &R, alloc: Global, signals: &Signals) {
         let PartingJob {
             gone,
-            mut connector,
-            mut places,
+            connector,
+            places,
             limit,
             began,
         } = self;
@@ -66,20 +61,15 @@ impl<'x, R: Wait + Clock + Net + SpoolDisk + Copy + Drop> ThreadWork<R, ()> for 
             senders: 1,
         };
         let times = SystemTimes::since(rt, began);
-        let kept = places.take_lefts(rt, &share, &mut connector, None, times.millis());
-        let connector = DivertConnector::new(
-            connector, *rt, NoLevels, None, share, signals,
-        ).with_kept(&kept);
-        let SenderPlaces { spool, rests } = places;
-        let first = FirstLines {
+        let start = SenderStart {
             connector,
-            spool,
-            rests,
+            places,
             share,
-            signals,
-            user: DiskUser::Parting,
+            divert: None,
+            levels: NoLevels,
         };
-        send_left(rt, alloc, first, gone, &times);
+        let first = start.take_lefts(rt, signals, DiskUser::Parting, times.millis());
+        send_left(rt, alloc, first, gone, &times, signals);
         let mut turns = DiskTurns::new(signals, DiskUser::Parting);
         for place in 0..gone.dests.len() {
             if !wait_for_turn(rt, &mut turns, signals) {
@@ -99,22 +89,12 @@ fn send_left<'n, 's, N: Connect + Drop, R: Wait + Clock + SpoolDisk + Copy + Dro
     first: FirstLines<'n, 's, N, R>,
     gone: &GoneDests,
     times: &SystemTimes<'_, R>,
+    signals: &Signals,
 )
 where
     N::Sink: HalfClose + Drop,
 {
-    let FirstLines {
-        connector,
-        spool,
-        rests,
-        share,
-        signals,
-        user,
-    } = first;
-    let connector = SpoolConnector::new(
-        connector, *rt, spool, &share, signals, user,
-    ).without_files();
-    let connector = RestConnector::new(alloc, connector, rests, share, signals);
+    let connector = first.into_connector(*rt, alloc);
     send_all(rt, connector, gone, times, signals);
 }
 
@@ -144,7 +124,7 @@ fn send_until_over<R: Wait + Clock, N: Connect>(
     for _ in rt.forever() {
         let millis = times.millis();
         send_to_all(connector, gone, millis);
-        connector.about_to_wait();
+        connector.stores().about_to_wait();
         if !gone.are_sent_to(millis) || ends(signals) {
             return;
         }
@@ -174,27 +154,6 @@ fn send_to_all<N: Connect>(connector: &mut N, gone: &GoneDests, millis: u64) {
                 unsent: 0,
             };
             gone.note_over(place, end);
-        }
-    }
-}
-
-/// Half-closes the connections, and waits until no store may still send something; not if another run follows.
-fn end_connections<R: Wait + Clock, N: Connect>(
-    rt: &R,
-    connector: &mut N,
-    times: &SystemTimes<'_, R>,
-    signals: &Signals,
-) {
-    if signals.is_handing() {
-        return;
-    }
-    connector.end_writes();
-    let end = times.millis().saturating_add(LONGEST_END_MS);
-    for _ in rt.forever() {
-        let millis = times.millis();
-        let is_over = connector.is_quiet() || millis >= end || signals.is_handing();
-        if is_over || connector.wait(MOST_WAIT_MS).is_err() {
-            return;
         }
     }
 }

@@ -15,7 +15,7 @@ use handover::{Rest, RestConnection};
 use mio_loops::{LeftBatch, LeftWriter, ReadinessFault};
 use relay_base::{DestId, MOST_DESTINATIONS, NoMemory, add};
 use run_state::{RestNotes, Signals};
-use senders::{Connect, KeptSocket};
+use senders::{Connect, HandOver, KeptSocket};
 use std::alloc::Global;
 use std::io::Write;
 
@@ -221,24 +221,24 @@ fn rest_in_hand(alloc: Global, batch: LeftBatch) -> Rest
 /// When the sender ends, what is still left goes to the slots; and if another run follows, so does what the sender had in hand,
 /// with its connection.
 #[derive(Drop)]
-pub(crate) struct RestConnector<'n, N: Connect> {
+pub(crate) struct RestConnector<'n, 's, N: Connect> {
     connector: N,
     rests: SenderRests<'n, N::Sink>,
     share: Share<'n>,
-    signals: &'n Signals,
+    signals: &'s Signals,
     alloc: Global,
     ready: [DestId; MOST_DESTINATIONS],
 }
 
-impl<'n, N: Connect> RestConnector<'n, N> {
+impl<'n, 's, N: Connect> RestConnector<'n, 's, N> {
     /// Connects through `connector`, behind these rests, for a sender with this share of the destinations.
     pub(crate) fn new(
         alloc: Global,
         connector: N,
         rests: SenderRests<'n, N::Sink>,
         share: Share<'n>,
-        signals: &'n Signals,
-    ) -> RestConnector<'n, N> {
+        signals: &'s Signals,
+    ) -> RestConnector<'n, 's, N> {
         RestConnector {
             connector,
             rests,
@@ -292,7 +292,7 @@ pub(crate) trait RestFiles {
     fn spool_rest(&mut self, alloc: Global, dest: DestId, rest: Rest) -> SpooledRest;
 }
 
-impl<'n, N: Connect + RestFiles> RestConnector<'n, N> {
+impl<'n, 's, N: Connect + RestFiles> RestConnector<'n, 's, N> {
     /// Writes the first rest of a destination to the file, once, if it is to go there. Returns whether that is done: not while
     /// the disk may not be used.
     fn spool_first(&mut self, dest: DestId) -> bool {
@@ -311,18 +311,20 @@ impl<'n, N: Connect + RestFiles> RestConnector<'n, N> {
     }
 }
 
-impl<'n, N: Connect + RestFiles + Drop> Connect for RestConnector<'n, N> {
+impl<'n, 's, N: Connect + RestFiles + Drop> Connect for RestConnector<'n, 's, N> {
     type Sink = N::Sink;
+
+    type Stores = N::Stores;
+
+    fn stores(&mut self) -> &mut N::Stores {
+        self.connector.stores()
+    }
 
     fn wait(&mut self, millis: u64) -> Result<&[DestId], ReadinessFault> {
         if self.rests.are_over() {
             return self.connector.wait(millis);
         }
         self.wait_beside_rests(millis)
-    }
-
-    fn about_to_wait(&mut self) {
-        self.connector.about_to_wait();
     }
 
     fn connect(&mut self, dest: DestId, millis: u64) -> Option<N::Sink> {
@@ -336,6 +338,19 @@ impl<'n, N: Connect + RestFiles + Drop> Connect for RestConnector<'n, N> {
         self.connector.has_closed(dest)
     }
 
+    fn take_back(&mut self, dest: DestId, sink: N::Sink) -> Option<KeptSocket> {
+        self.connector.take_back(dest, sink)
+    }
+
+    fn end(&mut self) {
+        for place in 0..self.rests.dests.len() {
+            self.leave(place);
+        }
+        self.connector.end();
+    }
+}
+
+impl<'n, 's, N: Connect + RestFiles + Drop> HandOver for RestConnector<'n, 's, N> {
     fn hands_over(&self) -> bool {
         self.signals.is_handing()
     }
@@ -354,32 +369,5 @@ impl<'n, N: Connect + RestFiles + Drop> Connect for RestConnector<'n, N> {
         };
         let rest = rest_in_hand(self.alloc, batch);
         self.share.slots.leave_rest(dest.0, rest, None, socket);
-    }
-
-    fn take_back(&mut self, dest: DestId, sink: N::Sink) -> Option<KeptSocket> {
-        self.connector.take_back(dest, sink)
-    }
-
-    fn end(&mut self) {
-        for place in 0..self.rests.dests.len() {
-            self.leave(place);
-        }
-        self.connector.end();
-    }
-
-    fn end_connection(&mut self, dest: DestId) {
-        self.connector.end_connection(dest);
-    }
-
-    fn has_ended(&self, dest: DestId) -> bool {
-        self.connector.has_ended(dest)
-    }
-
-    fn end_writes(&mut self) {
-        self.connector.end_writes();
-    }
-
-    fn is_quiet(&self) -> bool {
-        self.connector.is_quiet()
     }
 }

@@ -6,7 +6,7 @@ use crate::divert_sink::DivertSink;
 use crate::rest_connector::SenderRests;
 use crate::sender_spool::SenderSpool;
 use crate::spool_connector::SpoolSink;
-use crate::spool_left::write_lines;
+use crate::spool_left::{WrittenLeft, write_lines};
 use relay_base::{DestId, MOST_DESTINATIONS, NoMemory};
 use run_state::RestNotes;
 use senders::{Lookup, StoreConnector, StoreStream};
@@ -105,16 +105,13 @@ impl<'n, D: SpoolDisk + Wait + Net + Copy + Drop> SenderPlaces<'n, D> {
         sink: Option<DivertSink<'n, StoreStream<'n>, D>>,
     ) {
         let is_behind_file = left.is_behind_file();
-        let DestCarryOver {
+        let WrittenLeft {
             rest,
             later,
-            mut files,
-            socket,
-            lines,
-        } = left;
-        let lost = write_lines(rt, lines, files.as_mut(), self.spool.limit());
+            files,
+            lost,
+        } = write_lines(rt, left, self.spool.limit());
         self.spool.note_left_out(place, lost);
-        drop(socket);
         let mut sink = sink;
         let of_file = if is_behind_file { sink.take() } else { None };
         self.spool.begin(place, files, of_file);

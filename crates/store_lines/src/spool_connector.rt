@@ -10,7 +10,7 @@ use crate::sender_places::Share;
 use crate::sender_spool::{SenderSpool, half_close};
 use crate::spool_left::{SpooledRest, spool_rest};
 use handover::Rest;
-use mio_loops::{LeftWriter, ReadinessFault};
+use mio_loops::ReadinessFault;
 use relay_base::{DestId, MOST_DESTINATIONS};
 use run_state::{DiskTurns, DiskUser, Signals};
 use senders::{Connect, HalfClose, KeptSocket};
@@ -40,7 +40,8 @@ where
     N::Sink: HalfClose,
 {
     /// Connects through `connector` to a sender's share, and reaches the files by `disk`, as this user. These signals say which
-    /// destinations' last connections are files.
+    /// destinations' last connections are files. Only a sender gives those out: what the other users have not sent is written to
+    /// files elsewhere.
     pub(crate) fn new(
         connector: N,
         disk: D,
@@ -54,16 +55,9 @@ where
             files: SenderFiles::new(spool, disk, DiskTurns::new(signals, user)),
             slots: share.slots,
             signals,
-            may_spool: true,
+            may_spool: matches!(user, DiskUser::Sender(_)),
             ready: [DestId(0); MOST_DESTINATIONS],
         }
-    }
-
-    /// No connection is a file: somebody else writes to files what is not sent.
-    pub(crate) fn without_files(self) -> SpoolConnector<'n, 's, N, D> {
-        let mut connector = self;
-        connector.may_spool = false;
-        connector
     }
 
     /// Begins a turn. Returns whether it may use the disk until the next one begins.
@@ -195,15 +189,17 @@ where
 {
     type Sink = SpoolSink<'n, N::Sink, D>;
 
+    type Stores = N::Stores;
+
+    fn stores(&mut self) -> &mut N::Stores {
+        self.connector.stores()
+    }
+
     fn wait(&mut self, millis: u64) -> Result<&[DestId], ReadinessFault> {
         if self.files.spool.is_none() {
             return self.connector.wait(millis);
         }
         self.wait_beside_files(millis)
-    }
-
-    fn about_to_wait(&mut self) {
-        self.connector.about_to_wait();
     }
 
     fn connect(&mut self, dest: DestId, millis: u64) -> Option<SpoolSink<'n, N::Sink, D>> {
@@ -220,13 +216,6 @@ where
         self.connector.has_closed(dest)
     }
 
-    // What writers have in hand is for the connector around this one.
-    fn hands_over(&self) -> bool {
-        false
-    }
-
-    fn hand_over(&mut self, _dest: DestId, _left: LeftWriter<SpoolSink<'n, N::Sink, D>>) {}
-
     fn take_back(&mut self, dest: DestId, sink: SpoolSink<'n, N::Sink, D>) -> Option<KeptSocket> {
         match sink {
             SpoolSink::Store(sink) => self.connector.take_back(dest, sink),
@@ -240,22 +229,6 @@ where
         }
         self.files.end_turns();
         self.connector.end();
-    }
-
-    fn end_connection(&mut self, dest: DestId) {
-        self.connector.end_connection(dest);
-    }
-
-    fn has_ended(&self, dest: DestId) -> bool {
-        self.connector.has_ended(dest)
-    }
-
-    fn end_writes(&mut self) {
-        self.connector.end_writes();
-    }
-
-    fn is_quiet(&self) -> bool {
-        self.connector.is_quiet()
     }
 }
 

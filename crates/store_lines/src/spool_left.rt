@@ -25,15 +25,12 @@ pub(crate) fn spool_left<D: SpoolDisk + Drop>(
     limit: Option<u64>,
 ) -> SpooledLeft {
     let (queued, in_hand) = left.counts();
-    let DestCarryOver {
+    let WrittenLeft {
         rest,
         later,
-        mut files,
-        socket,
-        lines,
-    } = left;
-    drop(socket);
-    let lost = write_lines(&disk, lines, files.as_mut(), limit);
+        files,
+        lost,
+    } = write_lines(&disk, left, limit);
     let mut spooled = match files {
         Some(files) => spool_rests(disk, alloc, rest, later, files, limit),
         None => {
@@ -51,17 +48,50 @@ pub(crate) fn spool_left<D: SpoolDisk + Drop>(
     spooled
 }
 
-/// Writes the lines that a run which diverts destinations could not write behind the files of their destination. Returns how many
-/// datapoints these do not take either: they are lost.
+/// What is left for a destination in rests and files, and how many datapoints of its lines no file takes: they are lost.
+#[derive(Drop)]
+pub(crate) struct WrittenLeft {
+    pub(crate) rest: Option<Rest>,
+    pub(crate) later: Option<Rest>,
+    pub(crate) files: Option<DestSpool>,
+    pub(crate) lost: u64,
+}
+
+/// Writes the lines that a run which diverts destinations could not write behind the files of their destination. A socket that is
+/// left is dropped.
 pub(crate) fn write_lines<D: SpoolDisk>(
     disk: &D,
-    lines: Option<KeptLines>,
+    left: DestCarryOver,
+    limit: Option<u64>,
+) -> WrittenLeft {
+    let DestCarryOver {
+        rest,
+        later,
+        mut files,
+        socket,
+        lines,
+    } = left;
+    drop(socket);
+    let lost = match lines {
+        Some(lines) => write_kept(disk, lines, files.as_mut(), limit),
+        None => 0,
+    };
+    WrittenLeft {
+        rest,
+        later,
+        files,
+        lost,
+    }
+}
+
+/// Writes lines behind the files of their destination, if there are. Returns how many datapoints these do not take.
+fn write_kept<D: SpoolDisk>(
+    disk: &D,
+    lines: KeptLines,
     files: Option<&mut DestSpool>,
     limit: Option<u64>,
 ) -> u64 {
-    let Some(mut lines) = lines else {
-        return 0;
-    };
+    let mut lines = lines;
     if let Some(files) = files {
         append_lines(disk, &mut lines, files, limit);
         let _synced = files.end_segments(disk);

@@ -7,7 +7,7 @@ use mio_loops::{LISTENER, LeftWriter, LogInput, ReadTotals, ReadinessFault, Syst
 use queue_records::{Door, Made};
 use receivers::{Accept, AcceptOutcome, Datagrams, ReceiverRecord, ServedInput, receive_datagrams};
 use relay_base::DestId;
-use senders::{BatchSender, Connect, KeptSocket, send_batches};
+use senders::{BatchSender, Connect, HandOver, KeptSocket, Stores, send_batches};
 use std::alloc::Global;
 use std::io;
 use std::io::Read;
@@ -183,6 +183,12 @@ struct FailingConnector<'a> {
 impl<'a> Connect for FailingConnector<'a> {
     type Sink = &'a mut FaultyWriter<'static>;
 
+    type Stores = FailingConnector<'a>;
+
+    fn stores(&mut self) -> &mut FailingConnector<'a> {
+        self
+    }
+
     fn wait(&mut self, millis: u64) -> Result<&[DestId], ReadinessFault> {
         self.waits = self.waits.saturating_add(1);
         if self.waits > 2 {
@@ -192,8 +198,6 @@ impl<'a> Connect for FailingConnector<'a> {
         Ok(&[])
     }
 
-    fn about_to_wait(&mut self) {}
-
     fn connect(&mut self, _dest: DestId, _millis: u64) -> Option<&'a mut FaultyWriter<'static>> {
         self.sink.take()
     }
@@ -201,12 +205,6 @@ impl<'a> Connect for FailingConnector<'a> {
     fn has_closed(&self, _dest: DestId) -> bool {
         false
     }
-
-    fn hands_over(&self) -> bool {
-        false
-    }
-
-    fn hand_over(&mut self, _dest: DestId, _left: LeftWriter<&'a mut FaultyWriter<'static>>) {}
 
     fn take_back(
         &mut self,
@@ -217,6 +215,18 @@ impl<'a> Connect for FailingConnector<'a> {
     }
 
     fn end(&mut self) {}
+}
+
+impl<'a> HandOver for FailingConnector<'a> {
+    fn hands_over(&self) -> bool {
+        false
+    }
+
+    fn hand_over(&mut self, _dest: DestId, _left: LeftWriter<&'a mut FaultyWriter<'static>>) {}
+}
+
+impl<'a> Stores for FailingConnector<'a> {
+    fn about_to_wait(&mut self) {}
 
     fn end_connection(&mut self, _dest: DestId) {}
 
