@@ -31,8 +31,8 @@ mod words;
 pub use client_words::AdminAt;
 pub use explain::Explain;
 pub use invocation::{
-    AskedNames, CheckCommand, Invocation, LiveRouteCommand, PassCommand, ReplayCommand, ReplayInput,
-    RouteCommand, RunCommand, parse_words,
+    AskedNames, CheckCommand, Invocation, LiveRouteCommand, PassCommand, ReplayCommand,
+    ReplayInput, RouteCommand, RunCommand, parse_words,
 };
 pub use log_form::LogForm;
 pub use output_form::{OutputForm, RouteOutput};

@@ -70,10 +70,7 @@ pub fn end_with_notes(
 
 /// Whether a command has had its notes at its start: a relay that was stopped, and one that is restarted.
 fn has_had_notes(invocation: &Invocation, end: CommandEnd) -> bool {
-    matches!(
-        invocation,
-        Invocation::Run(_) | Invocation::Restart { .. }
-    ) && end.fault.is_none()
+    matches!(invocation, Invocation::Run(_) | Invocation::Restart { .. }) && end.fault.is_none()
 }
 
 /// Writes the notes of a command over the files at these paths, and returns how it ends.
