@@ -21,70 +21,18 @@ use std::alloc::Global;
 /// What the words ask for.
 #[derive(Drop)]
 pub enum Invocation {
-    /// `pass`: the datapoints of standard input to standard output as lines, with the moment of the whole input, whether bad
-    /// input is a fault, and whether files were named that it does not read.
-    Pass {
-        moment: Moment,
-        input: PassInput,
-        explain: Explain,
-        is_strict: bool,
-        ignores_files: bool,
-    },
-    /// `check`: whether the files are a configuration; the notes are of a spool's directory too, if one is named.
-    Check {
-        paths: Paths,
-        spool: Option<String>,
-        explain: Explain,
-        form: OutputForm,
-    },
-    /// `route`: where the files send a metric of this name.
-    Route {
-        paths: Paths,
-        name: String,
-        output: RouteOutput,
-        explain: Explain,
-    },
-    /// `replay`: what the files do with the events of the script at this path, and whether what gets nowhere is a fault.
-    Replay {
-        paths: Paths,
-        script: String,
-        shows_text: bool,
-        is_strict: bool,
-        explain: Explain,
-    },
-    /// `replay --lines`: what the files do with the lines of the file at this path, and whether what gets nowhere is a fault.
-    ReplayLines {
-        paths: Paths,
-        lines: String,
-        shows_text: bool,
-        is_strict: bool,
-        explain: Explain,
-    },
-    /// `route --names`: where the files send the metrics of the names in this file.
-    RouteNames {
-        paths: Paths,
-        names: String,
-        output: RouteOutput,
-        explain: Explain,
-    },
-    /// `route --admin`: where the relay with this admin port sends metrics.
-    LiveRoute {
-        admin: AdminAt,
-        asked: AskedNames,
-        output: RouteOutput,
-        explain: Explain,
-    },
-    /// `run`: a relay of these files that runs so, the form of its log, the file of its admin port's key, the path of its record,
-    /// and the directory of its spool, if any.
-    Run {
-        paths: Paths,
-        options: RunOptions,
-        log: Option<LogForm>,
-        admin_key: Option<String>,
-        record: Option<String>,
-        spool: Option<String>,
-        explain: Explain,
-    },
+    /// `pass`.
+    Pass(PassCommand),
+    /// `check`.
+    Check(CheckCommand),
+    /// `route`, by files.
+    Route(RouteCommand),
+    /// `route --admin`.
+    LiveRoute(LiveRouteCommand),
+    /// `replay`.
+    Replay(ReplayCommand),
+    /// `run`.
+    Run(RunCommand),
     /// `report`: what the relay with this admin port has counted.
     Report {
         admin: AdminAt,
@@ -113,6 +61,47 @@ pub enum Invocation {
     },
 }
 
+/// What `pass` is to do with the datapoints of standard input: it writes them to standard output as lines.
+#[derive(Drop)]
+pub struct PassCommand {
+    /// The moment of the whole input.
+    pub moment: Moment,
+    pub input: PassInput,
+    pub explain: Explain,
+    /// Whether bad input is a fault.
+    pub is_strict: bool,
+    /// Whether files were named, which it does not read.
+    pub ignores_files: bool,
+}
+
+/// What `check` is to look at: whether the files are a configuration.
+#[derive(Drop)]
+pub struct CheckCommand {
+    pub paths: Paths,
+    /// The directory of a spool, if one is named: there are notes of it too.
+    pub spool: Option<String>,
+    pub explain: Explain,
+    pub form: OutputForm,
+}
+
+/// What `route` is to say: where the files send these metrics.
+#[derive(Drop)]
+pub struct RouteCommand {
+    pub paths: Paths,
+    pub asked: AskedNames,
+    pub output: RouteOutput,
+    pub explain: Explain,
+}
+
+/// What `route --admin` is to say: where the relay with this admin port sends these metrics.
+#[derive(Drop)]
+pub struct LiveRouteCommand {
+    pub admin: AdminAt,
+    pub asked: AskedNames,
+    pub output: RouteOutput,
+    pub explain: Explain,
+}
+
 /// The metrics of which `route` asks where they go.
 #[derive(Drop)]
 pub enum AskedNames {
@@ -120,6 +109,62 @@ pub enum AskedNames {
     Name(String),
     /// Those of the names in this file.
     File(String),
+}
+
+impl AskedNames {
+    /// The path of the file of names, if there is one.
+    pub fn path(&self) -> Option<&String> {
+        match self {
+            AskedNames::Name(_) => None,
+            AskedNames::File(path) => Some(path),
+        }
+    }
+}
+
+/// What `replay` is to show: what the files do with this input.
+#[derive(Drop)]
+pub struct ReplayCommand {
+    pub paths: Paths,
+    pub input: ReplayInput,
+    /// Whether it shows what a connection got as text too.
+    pub shows_text: bool,
+    /// Whether what gets nowhere is a fault.
+    pub is_strict: bool,
+    pub explain: Explain,
+}
+
+/// What `replay` reads.
+#[derive(Drop)]
+pub enum ReplayInput {
+    /// The events of the script at this path.
+    Script(String),
+    /// The lines of the file at this path.
+    Lines(String),
+}
+
+impl ReplayInput {
+    /// The path of the input.
+    pub fn path(&self) -> &String {
+        match self {
+            ReplayInput::Script(path) | ReplayInput::Lines(path) => path,
+        }
+    }
+}
+
+/// How a relay of these files is to run.
+#[derive(Drop)]
+pub struct RunCommand {
+    pub paths: Paths,
+    pub options: RunOptions,
+    /// The form of its log, if it has one.
+    pub log: Option<LogForm>,
+    /// The file of its admin port's key, if it has one.
+    pub admin_key: Option<String>,
+    /// The path of its record, if there is to be one.
+    pub record: Option<String>,
+    /// The directory of its spool, if it has one.
+    pub spool: Option<String>,
+    pub explain: Explain,
 }
 
 /// What these words ask for.
@@ -152,13 +197,13 @@ fn invocation_of(alloc: Global, matches: &ArgMatches<'_>) -> Result<Invocation, 
 }
 
 fn pass_invocation(alloc: Global, options: &ArgMatches<'_>) -> Result<Invocation, Error> {
-    Ok(Invocation::Pass {
+    Ok(Invocation::Pass(PassCommand {
         moment: moment_option(alloc, options)?,
         input: pass_input(options),
         explain: explain_option(options, false),
         is_strict: options.get_flag("strict"),
         ignores_files: names_files(options),
-    })
+    }))
 }
 
 fn names_files(options: &ArgMatches<'_>) -> bool {
@@ -172,17 +217,17 @@ fn names_files(options: &ArgMatches<'_>) -> bool {
 
 fn check_invocation(alloc: Global, options: &ArgMatches<'_>) -> Result<Invocation, Error> {
     check_inputs(alloc, options, &CHECK, CONFIGURATION_FILES)?;
-    Ok(Invocation::Check {
+    Ok(Invocation::Check(CheckCommand {
         paths: path_options(alloc, options, &CHECK)?,
         spool: path_option(alloc, options, "spool")?,
         explain: explain_option(options, options.get_flag("strict")),
         form: form_option(options),
-    })
+    }))
 }
 
 fn run_invocation(alloc: Global, options: &ArgMatches<'_>) -> Result<Invocation, Error> {
     check_inputs(alloc, options, &RUN, CONFIGURATION_FILES)?;
-    Ok(Invocation::Run {
+    Ok(Invocation::Run(RunCommand {
         options: run_options(alloc, options)?,
         log: log_option(alloc, options)?,
         admin_key: path_option(alloc, options, "admin-key")?,
@@ -190,7 +235,7 @@ fn run_invocation(alloc: Global, options: &ArgMatches<'_>) -> Result<Invocation,
         spool: path_option(alloc, options, "spool")?,
         paths: path_options(alloc, options, &RUN)?,
         explain: explain_option(options, false),
-    })
+    }))
 }
 
 fn report_invocation(alloc: Global, options: &ArgMatches<'_>) -> Result<Invocation, Error> {
@@ -240,63 +285,43 @@ fn no_command(alloc: Global) -> Result<Invocation, Error> {
 
 fn route_invocation(alloc: Global, options: &ArgMatches<'_>) -> Result<Invocation, Error> {
     check_inputs(alloc, options, &ROUTE, ROUTE_FILES)?;
-    let explain = explain_option(options, false);
-    let output = route_output(options);
-    if let Some(admin) = admin_option(alloc, options, &ROUTE)? {
-        return live_route_invocation(alloc, options, admin);
-    }
-    match path_option(alloc, options, "names")? {
-        Some(names) => Ok(Invocation::RouteNames {
-            names,
+    match admin_option(alloc, options, &ROUTE)? {
+        Some(admin) => Ok(Invocation::LiveRoute(LiveRouteCommand {
+            admin,
+            asked: asked_names(alloc, options)?,
+            output: route_output(options),
+            explain: explain_option(options, false),
+        })),
+        None => Ok(Invocation::Route(RouteCommand {
+            asked: asked_names(alloc, options)?,
             paths: path_options(alloc, options, &ROUTE)?,
-            output,
-            explain,
-        }),
-        None => Ok(Invocation::Route {
-            name: text_option(alloc, options, "name")?,
-            paths: path_options(alloc, options, &ROUTE)?,
-            output,
-            explain,
-        }),
+            output: route_output(options),
+            explain: explain_option(options, false),
+        })),
     }
 }
 
-fn live_route_invocation(
-    alloc: Global,
-    options: &ArgMatches<'_>,
-    admin: AdminAt,
-) -> Result<Invocation, Error> {
-    let asked = match path_option(alloc, options, "names")? {
-        Some(names) => AskedNames::File(names),
-        None => AskedNames::Name(text_option(alloc, options, "name")?),
-    };
-    Ok(Invocation::LiveRoute {
-        admin,
-        asked,
-        output: route_output(options),
-        explain: explain_option(options, false),
-    })
+fn asked_names(alloc: Global, options: &ArgMatches<'_>) -> Result<AskedNames, Error> {
+    match path_option(alloc, options, "names")? {
+        Some(names) => Ok(AskedNames::File(names)),
+        None => Ok(AskedNames::Name(text_option(alloc, options, "name")?)),
+    }
 }
 
 fn replay_invocation(alloc: Global, options: &ArgMatches<'_>) -> Result<Invocation, Error> {
     check_inputs(alloc, options, &REPLAY, REPLAY_FILES)?;
-    let shows_text = options.get_flag("text");
-    let is_strict = options.get_flag("strict");
-    let explain = explain_option(options, false);
+    Ok(Invocation::Replay(ReplayCommand {
+        input: replay_input(alloc, options)?,
+        paths: path_options(alloc, options, &REPLAY)?,
+        shows_text: options.get_flag("text"),
+        is_strict: options.get_flag("strict"),
+        explain: explain_option(options, false),
+    }))
+}
+
+fn replay_input(alloc: Global, options: &ArgMatches<'_>) -> Result<ReplayInput, Error> {
     match path_option(alloc, options, "lines")? {
-        Some(lines) => Ok(Invocation::ReplayLines {
-            lines,
-            paths: path_options(alloc, options, &REPLAY)?,
-            shows_text,
-            is_strict,
-            explain,
-        }),
-        None => Ok(Invocation::Replay {
-            script: text_option(alloc, options, "script")?,
-            paths: path_options(alloc, options, &REPLAY)?,
-            shows_text,
-            is_strict,
-            explain,
-        }),
+        Some(lines) => Ok(ReplayInput::Lines(lines)),
+        None => Ok(ReplayInput::Script(text_option(alloc, options, "script")?)),
     }
 }

@@ -5,7 +5,7 @@
 //!
 //! ```text
 //! match parse_words(alloc, words) {
-//!     Ok(Invocation::Check { paths, explain }) => ..
+//!     Ok(Invocation::Check(command)) => ..
 //!     Err(error) => error.print(rt)
 //! }
 //! ```
@@ -30,7 +30,10 @@ mod words;
 
 pub use client_words::AdminAt;
 pub use explain::Explain;
-pub use invocation::{AskedNames, Invocation, parse_words};
+pub use invocation::{
+    AskedNames, CheckCommand, Invocation, LiveRouteCommand, PassCommand, ReplayCommand,
+    ReplayInput, RouteCommand, RunCommand, parse_words,
+};
 pub use log_form::LogForm;
 pub use output_form::{OutputForm, RouteOutput};
 pub use pass_input::PassInput;

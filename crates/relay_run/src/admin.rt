@@ -3,6 +3,7 @@
 ghost use Rattle.std.specs.Prelude.{◌≡◌, true};
 ghost use Rattle.std.specs.Option.{is_none};
 
+use crate::admin_desk::AdminDesk;
 use crate::ended_run::EndedRecord;
 use crate::prepared_run::PreparedRun;
 use crate::relay::Relay;
@@ -11,10 +12,7 @@ use crate::reload::{
     read_for,
 };
 use crate::reload_source::ReloadSource;
-use crate::report_source::ReportSource;
-use crate::run_end_work::{
-    PartingWait, answer_until_drained, answer_until_over, say_last_refusals, spool_away,
-};
+use crate::run_end_work::{PartingWait, answer_until_drained, answer_until_over, spool_away};
 use crate::spool_folder::SpoolFolder;
 use crate::start::Process;
 use finished_run::Recorder;
@@ -131,42 +129,25 @@ fn end_before<B: Set, R: Wait, K: Recorder>(
 fn answer_until_ended<B: Set, R: Wait + Clock + Net + SystemTables + Threads, F: ReloadSource>(
     rt: &R,
     alloc: Global,
-    relay: &Relay<B>,
-    ports: &mut FirstPorts,
-    files: &F,
+    desk: &mut AdminDesk<'_, B, F>,
     folder: Option<SpoolFolder<'_>>,
 ) -> Option<PreparedRun<B>> {
-    let mut watched = ReportSource::new(relay, files, false);
-    let next = answer_with(rt, alloc, relay, ports, &mut watched, folder);
-    watched.desk.end();
-    next
-}
-
-/// Answers commands by these answers until one is `stop`, or until another run is ready to follow, which is returned.
-fn answer_with<B: Set, R: Wait + Clock + Net + SystemTables + Threads, F: ReloadSource>(
-    rt: &R,
-    alloc: Global,
-    relay: &Relay<B>,
-    ports: &mut FirstPorts,
-    watched: &mut ReportSource<'_, B, F>,
-    folder: Option<SpoolFolder<'_>>,
-) -> Option<PreparedRun<B>> {
+    let (relay, files) = (desk.relay, desk.source.files);
     let times = SystemTimes::since(rt, relay.began);
-    let files = watched.files;
     let mut reading = None;
     for _ in rt.forever() {
-        let pause = pause_of(reading, watched.desk.is_watching());
-        let is_stopped = take_turn(rt, alloc, relay, ports, watched, pause);
+        let pause = pause_of(reading, desk.source.watch_desk.is_watching());
+        let is_stopped = desk.take_turn(rt, alloc, pause);
         let millis = times.millis();
         if is_stopped {
             if let Some(begun) = reading {
-                ports.admin.refuse_reload(begun.connection, millis);
+                desk.ports.admin.refuse_reload(begun.connection, millis);
             }
             return None;
         }
         let Some(begun) = reading else {
             close_late_files(rt, relay, files);
-            reading = begin_reading(alloc, &mut ports.admin, files, millis);
+            reading = begin_reading(alloc, &mut desk.ports.admin, files, millis);
             continue;
         };
         let Some(read) = read_for(alloc, files, begun, millis) else {
@@ -178,7 +159,7 @@ fn answer_with<B: Set, R: Wait + Clock + Net + SystemTables + Threads, F: Reload
             folder,
             connection: begun.connection,
         };
-        match follow_by(rt, alloc, relay, ports, watched, reload) {
+        match follow_by(rt, alloc, desk, reload) {
             Following::Run(prepared) => return Some(prepared),
             Following::Nothing => {}
             Following::Stop => return None,
@@ -193,37 +174,6 @@ fn pause_of(reading: Option<Reading>, is_watching: bool) -> u64 {
         Some(_) => READING_PAUSE_MS,
         None if is_watching => WATCHING_PAUSE_MS,
         None => PAUSE_MS,
-    }
-}
-
-/// Answers commands for a turn by these answers, and before that says which connections were refused what they asked for, and takes
-/// what receivers handed over for watches. It waits for so many milliseconds at most. Returns whether a command was `stop`.
-pub(crate) fn take_turn<B: Set, R: Wait + Clock + Net, F: ReloadSource>(
-    rt: &R,
-    alloc: Global,
-    relay: &Relay<B>,
-    ports: &mut FirstPorts,
-    watched: &mut ReportSource<'_, B, F>,
-    pause: u64,
-) -> bool {
-    let times = SystemTimes::since(rt, relay.began);
-    let millis = times.millis();
-    say_refusals(rt, alloc, relay, ports, millis);
-    watched.desk.drain(alloc, millis, times.moment());
-    ports.admin.take_turn(rt, alloc, watched, millis, pause)
-}
-
-/// Has the log say which connections were refused what they asked for, once a minute at most.
-fn say_refusals<B: Set, R: Wait>(
-    rt: &R,
-    alloc: Global,
-    relay: &Relay<B>,
-    ports: &mut FirstPorts,
-    millis: u64,
-) {
-    let refusals = ports.admin.refusals();
-    if let Some(line) = ports.said.line(alloc, refusals, millis) {
-        relay.late_news.put(rt, line);
     }
 }
 
@@ -250,11 +200,9 @@ impl<
         } = &mut *self.state;
         answer_reloaded(rt, relay, ports, before);
         end_before(rt, alloc, relay, before, self.recorder);
-        let (files, folder) = (self.files, self.folder);
-        put(
-            next,
-            answer_until_ended(rt, alloc, relay, ports, files, folder),
-        );
+        let mut desk = AdminDesk::new(relay, ports, self.files, false);
+        put(next, answer_until_ended(rt, alloc, &mut desk, self.folder));
+        desk.source.watch_desk.end();
         if next.is_some() {
             relay.open_streams();
         }
@@ -273,9 +221,8 @@ impl<
     fn end_parting(&mut self, rt: &R, alloc: Global) {
         let relay = self.relay;
         relay.gone_gate.wake_all();
-        let wait = PartingWait::new(&relay.gone);
-        let files = self.files;
-        answer_until_over(rt, alloc, &mut self.state.ports.admin, relay, files, wait);
+        let mut desk = AdminDesk::new(relay, &mut self.state.ports, self.files, true);
+        answer_until_over(rt, alloc, &mut desk, PartingWait::new(&relay.gone));
     }
 
     fn close_receivers(&mut self, rt: &R, alloc: Global, controls: &[Arc<ReceiverControl>]) {
@@ -283,25 +230,18 @@ impl<
         spool_away(self.relay);
         let millis = SystemTimes::since(rt, self.relay.began).millis();
         let closing = ClosingWait::begin(controls, millis);
-        let files = self.files;
-        answer_until_over(
-            rt,
-            alloc,
-            &mut self.state.ports.admin,
-            self.relay,
-            files,
-            closing,
-        );
+        let mut desk = AdminDesk::new(self.relay, &mut self.state.ports, self.files, true);
+        answer_until_over(rt, alloc, &mut desk, closing);
     }
 
     fn drain(&mut self, rt: &R, alloc: Global) {
         let (relay, files) = (self.relay, self.files);
-        let ports = &mut self.state.ports;
+        let mut desk = AdminDesk::new(relay, &mut self.state.ports, files, true);
         if let Some(end) = relay.state.end() {
-            answer_until_drained(rt, alloc, &mut ports.admin, relay, files, end);
+            answer_until_drained(rt, alloc, &mut desk, end);
         }
         close_late_files(rt, relay, files);
-        say_last_refusals(rt, alloc, relay, ports);
+        desk.say_last_refusals(rt, alloc);
     }
 
     fn wake_senders(&self) {

@@ -3,9 +3,9 @@
 ghost use Rattle.std.specs.Prelude.{◌≡◌, true, IfErr};
 ghost use Rattle.relay_ports.specs.StartFault.{is_start_fault};
 
-use crate::closing::output_fault;
 use crate::relay_jobs::JobMaker;
 use crate::runtime::RelayRuntime;
+use crate::sender_setup::connector_with;
 use locked_queues::Set;
 use mio_loops::Readiness;
 use relay_files::RelayFault;
@@ -14,7 +14,8 @@ use senders::{SenderShare, StoreConnector};
 use spool::SpoolBound;
 use store_lines::{KeeperJob, KeeperPlaces, Share};
 
-/// The job of the keeper of files, if the run diverts destinations, which waits with this readiness.
+/// The job of the keeper of files, if the run diverts destinations, which waits with this readiness. It notes the events of all
+/// destinations.
 pub(crate) fn keeper_job<'x, B: Set, R: RelayRuntime>(
     maker: &JobMaker<'x, B, R>,
     readiness: Option<Readiness>,
@@ -25,33 +26,15 @@ pub(crate) fn keeper_job<'x, B: Set, R: RelayRuntime>(
     let (Some(readiness), Some(end)) = (readiness, relay.state.end()) else {
         return Ok(None);
     };
-    match keeper_connector(maker, readiness) {
-        Ok(connector) => keeper_with(maker, connector, end),
-        Err(fault) => Err(fault),
-    }
-}
-
-/// The connector of the keeper to all destinations, which notes their events.
-fn keeper_connector<'x, B: Set, R: RelayRuntime>(
-    maker: &JobMaker<'x, B, R>,
-    readiness: Readiness,
-) -> Result<StoreConnector<'x, R>, RelayFault>
-    ensures { IfErr result (λ fault. is_start_fault fault ≡ true) }
-{
-    let relay = maker.relay;
     let Some(alarm) = relay.keeper_gate.alarm(0) else {
         drop(readiness);
         return Err(RelayFault::Output);
     };
     let noted = relay.noted();
-    let (rt, alloc, threads) = (*maker.rt, maker.alloc, maker.hosts);
     let share = SenderShare::all(noted.dests);
-    match StoreConnector::new(rt, alloc, threads, readiness, alarm, share) {
-        Ok(mut connector) => {
-            connector.set_notes(noted.notes);
-            Ok(connector)
-        }
-        Err(fault) => Err(output_fault(fault)),
+    match connector_with(maker, readiness, alarm, share, noted.notes) {
+        Ok(connector) => keeper_with(maker, connector, end),
+        Err(fault) => Err(fault),
     }
 }
 

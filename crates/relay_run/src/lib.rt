@@ -11,12 +11,12 @@
 #![tactic(auto)]
 
 mod admin;
+mod admin_desk;
 mod closing;
 mod ended_run;
 mod failed_run;
 mod keeper_setup;
 mod next_start;
-mod parting_setup;
 mod prepared_run;
 mod receiver_job;
 mod receiver_setup;
@@ -24,7 +24,6 @@ mod relay;
 mod relay_jobs;
 mod reload;
 mod reload_source;
-mod report_source;
 mod run_command;
 mod run_end_work;
 mod run_levels;

@@ -1,7 +1,7 @@
 //! What a run begins with that follows another one.
 
 use crate::ended_run::EndedRun;
-use crate::prepared_run::{KeptPlaces, NextPlan};
+use crate::prepared_run::{Held, KeptPlaces, MadeReady, NextPlan};
 use crate::relay::Relay;
 use crate::shape::shape_of;
 use crate::start::{Begun, Process, RunCarryOver, Start};
@@ -93,15 +93,22 @@ pub(crate) fn start_after<F>(
 ) -> Start {
     let NextPlan {
         configuration,
-        receivers,
-        blank,
-        shared,
-        places,
-        new_places,
-        files,
-        news,
+        made,
+        held,
         ..
     } = prepared;
+    let MadeReady {
+        places,
+        files,
+        blank,
+        ..
+    } = made;
+    let Held {
+        receivers,
+        mut new_places,
+        mut shared,
+        mut news,
+    } = held;
     let KeptByFirst {
         ports: first,
         mut server,
@@ -110,7 +117,6 @@ pub(crate) fn start_after<F>(
     if let Some(server) = &mut server {
         server.keep_dests(alloc, places.kept.as_slice());
     }
-    let mut news = news;
     // Without memory for that the log lacks it.
     let _said = say_drops(&mut news, ended);
     let stores_before = ended.slots.len().saturating_add(ended.gone.dests.len());
@@ -119,12 +125,10 @@ pub(crate) fn start_after<F>(
         news: said,
     } = files;
     drop(said);
-    let mut new_places = new_places;
     new_places.carry_over(ended, &places, &mut found);
     let drain_millis = process.setup.options.drain.saturating_mul(1_000);
     new_places.add_gone(ended, millis.saturating_add(drain_millis));
     let carry_over = carry_over_of(alloc, ended, new_places, logged, news);
-    let mut shared = shared;
     if carry_over.gone.are_none() {
         shared.drop_gone(alloc);
     }

@@ -40,43 +40,57 @@ impl<B: Set> PreparedRun<B> {
     pub(crate) fn give_up<R: Wait>(self, rt: &R, relay: &Relay<B>) {
         let PreparedRun { next, room } = self;
         drop(room);
-        let NextPlan { files, .. } = next;
+        let NextPlan { made, .. } = next;
+        let MadeReady { files, .. } = made;
         close_files(rt, relay, files);
     }
 }
 
-/// A run that is to follow the one that runs: its configuration, which was read and checked; what it receives with; the totals of its
-/// queues; what its threads share; where each of its destinations is among those of the run, and among those that are gone;
-/// their new places; the files of the others; the line of the answer, and with what is said of the files the first lines of the
-/// log; and the connection that waits for the answer.
+/// A run that is to follow the one that runs: its configuration, which was read and checked; what was made ready for it, and is
+/// held; and the connection that waits for the answer.
 #[derive(Drop)]
 pub(crate) struct NextPlan {
     pub(crate) configuration: RunConfiguration,
-    pub(crate) receivers: Vec<Inlet>,
-    pub(crate) blank: BlankTotals,
-    pub(crate) shared: SharedParts,
+    pub(crate) made: MadeReady,
+    pub(crate) held: Held,
+    pub(crate) connection: u64,
+}
+
+/// What a run needs that is to follow this one, beside its configuration and what is held. Its files are open once they were asked
+/// for. The line is that of the answer.
+#[derive(Drop)]
+pub(crate) struct MadeReady {
     pub(crate) places: KeptPlaces,
-    pub(crate) new_places: NewPlaces,
+    asked: Option<FilesAsked>,
     pub(crate) files: SpoolFiles,
     pub(crate) line: String,
-    pub(crate) news: String,
-    pub(crate) connection: u64,
+    pub(crate) blank: BlankTotals,
 }
 
-/// What a reload begins with: the relay that runs, the ports that the first thread keeps, and the connection that waits for the
-/// answer.
+/// By the places of a run's destinations, where each of the next run is among them, and among those that are gone.
 #[derive(Drop)]
-pub(crate) struct ReloadFrom<'x, B: Set> {
-    pub(crate) relay: &'x Relay<B>,
-    pub(crate) ports: &'x FirstPorts,
-    pub(crate) connection: u64,
+pub(crate) struct KeptPlaces {
+    pub(crate) kept: Vec<Option<DestId>>,
+    pub(crate) returned: Vec<Option<DestId>>,
 }
 
-/// A run that may follow the one that runs: its configuration, and what it needs beside what is held for it.
+/// What is held for a run that is to follow this one, beside its files: what it receives with, the places of its destinations, and
+/// what its threads share; and the first lines of its log.
+#[derive(Drop)]
+pub(crate) struct Held {
+    pub(crate) receivers: Vec<Inlet>,
+    pub(crate) new_places: NewPlaces,
+    pub(crate) shared: SharedParts,
+    pub(crate) news: String,
+}
+
+/// A run that may follow the one that runs: its configuration, what it needs beside what is held for it, and room for what the one
+/// that runs leaves.
 #[derive(Drop)]
 pub(crate) struct ReadyRun<B: Set> {
     configuration: RunConfiguration,
-    made: MadeReady<B>,
+    made: MadeReady,
+    room: EndRoom<B>,
 }
 
 impl<B: Set> ReadyRun<B> {
@@ -109,9 +123,10 @@ pub(crate) fn ready_by<B: Set, R: Net + Threads>(
         return Err(refused_for(alloc, shortage));
     }
     match made_ready(alloc, relay, &configuration, folder) {
-        Ok(made) => Ok(ReadyRun {
+        Ok((made, room)) => Ok(ReadyRun {
             configuration,
             made,
+            room,
         }),
         Err(NoMemory) => {
             drop(configuration);
@@ -125,22 +140,28 @@ pub(crate) fn ready_by<B: Set, R: Net + Threads>(
 pub(crate) fn prepared_by<B: Set, R: Net + SystemTables + Wait>(
     rt: &R,
     alloc: Global,
-    from: ReloadFrom<'_, B>,
+    relay: &Relay<B>,
+    ports: &FirstPorts,
     ready: ReadyRun<B>,
+    connection: u64,
 ) -> Result<PreparedRun<B>, RefusedReload> {
-    let ReloadFrom {
-        relay,
-        ports,
-        connection,
-    } = from;
     let ReadyRun {
         configuration,
         made,
+        room,
     } = ready;
     match held_for(rt, alloc, relay, ports, &made) {
-        Ok(held) => Ok(prepared_for(configuration, made, held, connection)),
+        Ok(held) => {
+            let next = NextPlan {
+                configuration,
+                made,
+                held,
+                connection,
+            };
+            Ok(PreparedRun { next, room })
+        }
         Err(shortage) => {
-            drop(configuration);
+            drop((configuration, room));
             let MadeReady { files, .. } = made;
             close_files(rt, relay, files);
             Err(refused_for(alloc, shortage))
@@ -149,7 +170,7 @@ pub(crate) fn prepared_by<B: Set, R: Net + SystemTables + Wait>(
 }
 
 /// Closes the files of a run that does not follow. The log says what was done in their folder.
-fn close_files<B: Set, R: Wait>(rt: &R, relay: &Relay<B>, files: SpoolFiles) {
+pub(crate) fn close_files<B: Set, R: Wait>(rt: &R, relay: &Relay<B>, files: SpoolFiles) {
     let SpoolFiles { dests, news } = files;
     drop(dests);
     relay.say(rt, news);
@@ -176,43 +197,6 @@ fn refusal_of<B: Set>(
     None
 }
 
-/// The run by a configuration that is to follow, of what was made ready and is held for it.
-fn prepared_for<B: Set>(
-    configuration: RunConfiguration,
-    made: MadeReady<B>,
-    held: Held,
-    connection: u64,
-) -> PreparedRun<B> {
-    let MadeReady {
-        places,
-        asked,
-        files,
-        line,
-        blank,
-        room,
-    } = made;
-    drop(asked);
-    let Held {
-        receivers,
-        new_places,
-        shared,
-        news,
-    } = held;
-    let next = NextPlan {
-        configuration,
-        receivers,
-        blank,
-        shared,
-        places,
-        new_places,
-        files,
-        line,
-        news,
-        connection,
-    };
-    PreparedRun { next, room }
-}
-
 /// How many destinations a run by a configuration does not have that this one has, or still sends to though they are gone.
 fn gone_count<B: Set>(relay: &Relay<B>, configuration: &RunConfiguration) -> usize {
     let new = configuration.settings().destinations();
@@ -231,56 +215,27 @@ fn lacked_by(list: &[Dest], dests: &[Dest]) -> usize {
     count
 }
 
-/// What is held for a run that is to follow this one, beside its files: what it receives with, the places of its destinations, and what its
-/// threads share; and the first lines of its log.
-#[derive(Drop)]
-struct Held {
-    receivers: Vec<Inlet>,
-    new_places: NewPlaces,
-    shared: SharedParts,
-    news: String,
-}
-
-/// What a run needs that is to follow this one, beside its configuration and what is held, and room for what this one leaves. Its
-/// files are open once they were asked for.
-#[derive(Drop)]
-struct MadeReady<B: Set> {
-    places: KeptPlaces,
-    asked: Option<FilesAsked>,
-    files: SpoolFiles,
-    line: String,
-    blank: BlankTotals,
-    room: EndRoom<B>,
-}
-
-/// By the places of a run's destinations, where each of the next run is among them, and among those that are gone.
-#[derive(Drop)]
-pub(crate) struct KeptPlaces {
-    pub(crate) kept: Vec<Option<DestId>>,
-    pub(crate) returned: Vec<Option<DestId>>,
-}
-
-/// Makes ready what needs memory for a run by a configuration.
+/// Makes ready what needs memory for a run by a configuration, with room for what the one that runs leaves.
 fn made_ready<B: Set>(
     alloc: Global,
     relay: &Relay<B>,
     configuration: &RunConfiguration,
     folder: Option<SpoolFolder<'_>>,
-) -> Result<MadeReady<B>, NoMemory> {
+) -> Result<(MadeReady, EndRoom<B>), NoMemory> {
     let settings = configuration.settings();
     try_queues(alloc, settings, relay.shape.receivers)?;
     let dests = settings.destinations();
     let line = reload_line(alloc, &relay.configuration, configuration)?;
     let places = kept_of(alloc, relay, dests)?;
     let asked = asked_of(alloc, dests, &places, folder)?;
-    Ok(MadeReady {
+    let made = MadeReady {
         asked,
         files: no_files(alloc, dests.len())?,
         line,
         places,
         blank: BlankTotals::new(alloc)?,
-        room: relay.queues.end_room(alloc)?,
-    })
+    };
+    Ok((made, relay.queues.end_room(alloc)?))
 }
 
 /// Makes what a run holds from before this one ends for which this is ready.
@@ -289,7 +244,7 @@ fn held_for<B: Set, R: Net + SystemTables>(
     alloc: Global,
     relay: &Relay<B>,
     ports: &FirstPorts,
-    made: &MadeReady<B>,
+    made: &MadeReady,
 ) -> Result<Held, Shortage> {
     let news = first_lines(alloc, made.line.as_str(), made.files.news.as_str())?;
     let receivers = match ports.for_receivers(rt, alloc) {

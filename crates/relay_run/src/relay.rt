@@ -66,11 +66,12 @@ pub(crate) struct OpenRelay<B: Set, L> {
     pub(crate) ports: FirstPorts,
 }
 
-/// What the threads of a run are given, each its part: the seats at the queues, what receivers receive with, what each
+/// What the threads of a run are given, each its part: the seats of doors and of outlets, what receivers receive with, what each
 /// sender, the sender to destinations that are gone and the keeper of files wait with, and what the watching threads get.
 #[derive(Drop)]
 pub(crate) struct Parts<B: Set, L> {
-    pub(crate) seats: Seats<B>,
+    pub(crate) doors: Vec<DoorSeat<B>>,
+    pub(crate) outlets: Vec<OutletSeat<B>>,
     pub(crate) receivers: Vec<Inlet>,
     pub(crate) watches: Vec<Readiness>,
     pub(crate) gone_watch: Option<Readiness>,
@@ -86,13 +87,6 @@ pub(crate) struct Watching<L> {
     pub(crate) news: String,
     pub(crate) logged: Vec<ReceiverLog>,
     pub(crate) status: Option<StatusServer>,
-}
-
-/// The seats of doors and of outlets.
-#[derive(Drop)]
-pub(crate) struct Seats<B: Set> {
-    pub(crate) doors: Vec<DoorSeat<B>>,
-    pub(crate) outlets: Vec<OutletSeat<B>>,
 }
 
 /// Why a relay cannot be opened, and what ended runs left.
@@ -251,7 +245,8 @@ fn open_relay<B: Set, L: Drop, F>(
             file_limit: process.file_limit(),
         },
         parts: Parts {
-            seats: Seats { doors, outlets },
+            doors,
+            outlets,
             receivers,
             watches,
             gone_watch,

@@ -4,22 +4,22 @@ ghost use Rattle.std.specs.Prelude.{◌≡◌, true, length, IfErr};
 ghost use Rattle.relay_ports.specs.StartFault.{is_start_fault};
 
 use crate::keeper_setup::keeper_job;
-use crate::parting_setup::parting_job;
 use crate::receiver_job::ReceiverJob;
 use crate::receiver_setup::receivers_of;
-use crate::relay::{Parts, Relay, Seats, Watching};
+use crate::relay::{Parts, Relay, Watching};
 use crate::runtime::RelayRuntime;
 use crate::sender_job::SenderJob;
-use crate::sender_setup::senders_of;
+use crate::sender_setup::{connector_with, senders_of};
 use locked_queues::Set;
+use mio_loops::Readiness;
 use relay_base::NoMemory;
 use relay_files::RelayFault;
 use relay_watchers::{LogJob, ReceiverLog, StatusJob, Watched, watchers_of};
 use run_threads::{Jobs, Receiving};
-use senders::HostThreads;
+use senders::{HostThreads, SenderShare};
 use std::alloc::Global;
 use std::io::Write;
-use store_lines::{KeeperJob, PartingJob};
+use store_lines::{KeeperJob, PartingJob, SenderPlaces};
 
 /// What makes the jobs of a relay's threads.
 #[derive(Drop)]
@@ -52,14 +52,14 @@ pub(crate) fn jobs_of<'x, B: Set, R: RelayRuntime, L: Write + Drop>(
     ensures { IfErr result (λ fault. is_start_fault fault ≡ true) }
 {
     let Parts {
-        seats,
+        doors,
+        outlets,
         receivers,
         watches,
         gone_watch,
         keeper_watch,
         watching,
     } = parts;
-    let Seats { doors, outlets } = seats;
     let dests = relay.configuration.settings().destinations();
     hosts.end_others(rt, dests, relay.gone.dests.as_slice());
     let maker = JobMaker {
@@ -75,6 +75,41 @@ pub(crate) fn jobs_of<'x, B: Set, R: RelayRuntime, L: Write + Drop>(
     let keeping = keeper_job(&maker, keeper_watch);
     let watching = watching_of(&maker, logs, watching);
     all_jobs(receiving, sending, parting, keeping, watching)
+}
+
+/// The job of the sender to destinations that are gone, if there are such, which waits with this readiness.
+fn parting_job<'x, B: Set, R: RelayRuntime>(
+    maker: &JobMaker<'x, B, R>,
+    readiness: Option<Readiness>,
+) -> Result<Option<PartingJob<'x, R>>, RelayFault>
+    ensures { IfErr result (λ fault. is_start_fault fault ≡ true) }
+{
+    let relay = maker.relay;
+    let (Some(readiness), Some(alarm)) = (readiness, relay.gone_gate.alarm(0)) else {
+        return Ok(None);
+    };
+    let gone = &relay.gone;
+    let dests = gone.dests.as_slice();
+    let (share, links) = (SenderShare::all(dests), gone.links.as_slice());
+    let connector = match connector_with(maker, readiness, alarm, share, links) {
+        Ok(connector) => connector,
+        Err(fault) => return Err(fault),
+    };
+    let (limit, count) = (relay.file_limit, dests.len());
+    let (files, rests) = (gone.files.as_slice(), gone.rests.as_slice());
+    match SenderPlaces::new(maker.alloc, count, limit, files, count, rests) {
+        Ok(places) => Ok(Some(PartingJob {
+            gone,
+            connector,
+            places,
+            limit,
+            began: relay.began,
+        })),
+        Err(_) => {
+            drop(connector);
+            Err(RelayFault::NoMemory)
+        }
+    }
 }
 
 /// What an earlier log has reported of each receiver is not reported again.

@@ -1,17 +1,16 @@
 //! A reload, while the run goes on and the first thread answers commands: its files are read and opened, the run that is to
 //! follow is made ready, and all threads leave the disk alone.
 
-use crate::admin::take_turn;
-use crate::prepared_run::{PreparedRun, ReadyRun, ReloadFrom, prepared_by, ready_by};
+use crate::admin_desk::AdminDesk;
+use crate::prepared_run::{PreparedRun, ReadyRun, close_files, prepared_by, ready_by};
 use crate::relay::Relay;
 use crate::reload_source::{RefusedReload, ReloadSource};
-use crate::report_source::ReportSource;
 use crate::spool_folder::SpoolFolder;
 use admin_port::AdminListener;
 use locked_queues::Set;
 use mio_loops::{SystemTimes, TimeSource};
 use relay_files::RunConfiguration;
-use relay_ports::{FirstPorts, SystemTables};
+use relay_ports::SystemTables;
 use run_state::{DiskUser, DiskUsers, Signals};
 use spool::{SpoolFiles, Unopened};
 use std::alloc::Global;
@@ -92,25 +91,24 @@ pub(crate) enum Following<B: Set> {
 pub(crate) fn follow_by<B: Set, R: Wait + Clock + Net + SystemTables + Threads, F: ReloadSource>(
     rt: &R,
     alloc: Global,
-    relay: &Relay<B>,
-    ports: &mut FirstPorts,
-    watched: &mut ReportSource<'_, B, F>,
+    desk: &mut AdminDesk<'_, B, F>,
     reload: ReadReload<'_>,
 ) -> Following<B> {
     let connection = reload.connection;
-    let prepared = prepared_after(rt, alloc, relay, ports, watched, reload);
-    let millis = SystemTimes::since(rt, relay.began).millis();
+    let prepared = prepared_after(rt, alloc, desk, reload);
+    let millis = SystemTimes::since(rt, desk.relay.began).millis();
+    let admin = &mut desk.ports.admin;
     match prepared {
         Ok(prepared) => {
-            keep_answer(alloc, &mut ports.admin, &prepared);
+            keep_answer(alloc, admin, &prepared);
             Following::Run(prepared)
         }
         Err(NotPrepared::Refused(refused)) => {
-            refuse(alloc, &mut ports.admin, connection, refused, millis);
+            refuse(alloc, admin, connection, refused, millis);
             Following::Nothing
         }
         Err(NotPrepared::Stopped) => {
-            ports.admin.refuse_reload(connection, millis);
+            admin.refuse_reload(connection, millis);
             Following::Stop
         }
     }
@@ -129,34 +127,32 @@ enum NotPrepared {
 fn prepared_after<B: Set, R: Wait + Clock + Net + SystemTables + Threads, F: ReloadSource>(
     rt: &R,
     alloc: Global,
-    relay: &Relay<B>,
-    ports: &mut FirstPorts,
-    watched: &mut ReportSource<'_, B, F>,
+    desk: &mut AdminDesk<'_, B, F>,
     reload: ReadReload<'_>,
 ) -> Result<PreparedRun<B>, NotPrepared> {
+    let relay = desk.relay;
     let ReadReload {
         read,
         folder,
         connection,
     } = reload;
-    let mut ready = match ready_run(rt, alloc, relay, folder, read) {
+    let configuration = match read {
+        Ok(configuration) => configuration,
+        Err(refused) => return Err(NotPrepared::Refused(refused)),
+    };
+    let mut ready = match ready_by(rt, alloc, relay, folder, configuration) {
         Ok(ready) => ready,
         Err(refused) => return Err(NotPrepared::Refused(refused)),
     };
-    if let Err(ended) = open_files_of(rt, alloc, relay, ports, watched, &mut ready) {
+    if let Err(ended) = open_files_of(rt, alloc, desk, &mut ready) {
         drop(ready);
         return Err(ended);
     }
-    let from = ReloadFrom {
-        relay,
-        ports,
-        connection,
-    };
-    let prepared = match prepared_by(rt, alloc, from, ready) {
+    let prepared = match prepared_by(rt, alloc, relay, &*desk.ports, ready, connection) {
         Ok(prepared) => prepared,
         Err(refused) => return Err(NotPrepared::Refused(refused)),
     };
-    match halt_disk_use(rt, alloc, relay, ports, watched) {
+    match halt_disk_use(rt, alloc, desk) {
         Ok(()) => Ok(prepared),
         Err(ended) => {
             prepared.give_up(rt, relay);
@@ -165,44 +161,30 @@ fn prepared_after<B: Set, R: Wait + Clock + Net + SystemTables + Threads, F: Rel
     }
 }
 
-/// Makes ready the run of the configuration that was read, or says why not.
-fn ready_run<B: Set, R: Net + Threads>(
-    rt: &R,
-    alloc: Global,
-    relay: &Relay<B>,
-    folder: Option<SpoolFolder<'_>>,
-    read: Result<RunConfiguration, RefusedReload>,
-) -> Result<ReadyRun<B>, RefusedReload> {
-    match read {
-        Ok(configuration) => ready_by(rt, alloc, relay, folder, configuration),
-        Err(refused) => Err(refused),
-    }
-}
-
 /// Opens the files that a run needs which is ready, if it needs some. Another thread does it: here nobody waits for the disk. It
 /// has ten seconds; what it opens later is closed by [`close_late_files`].
 fn open_files_of<B: Set, R: Wait + Clock + Net, F: ReloadSource>(
     rt: &R,
     alloc: Global,
-    relay: &Relay<B>,
-    ports: &mut FirstPorts,
-    watched: &mut ReportSource<'_, B, F>,
+    desk: &mut AdminDesk<'_, B, F>,
     ready: &mut ReadyRun<B>,
 ) -> Result<(), NotPrepared> {
-    let files = watched.files;
+    let files = desk.source.files;
     let Some(asked) = ready.take_asked() else {
         return Ok(());
     };
     if let Err(refused) = files.open(alloc, asked) {
         return Err(NotPrepared::Refused(refused));
     }
-    let wait = OpeningWait { files };
-    match wait_for_disk(rt, alloc, relay, ports, watched, &wait) {
+    match wait_for_disk(rt, alloc, desk, &OpeningWait { files }) {
         Ok(Ok(opened)) => {
             ready.put_files(opened);
             Ok(())
         }
-        Ok(Err(unopened)) => Err(NotPrepared::Refused(refused_for(rt, alloc, relay, unopened))),
+        Ok(Err(unopened)) => {
+            let refused = refusal_of_unopened(rt, alloc, desk.relay, unopened);
+            Err(NotPrepared::Refused(refused))
+        }
         Err(ended) => Err(ended),
     }
 }
@@ -249,22 +231,20 @@ impl DiskWait for HaltingWait<'_> {
     }
 }
 
-/// Answers commands by these answers until a wait has ended, for ten seconds at most.
+/// Answers commands until a wait has ended, for ten seconds at most.
 fn wait_for_disk<B: Set, R: Wait + Clock + Net, F: ReloadSource, W: DiskWait>(
     rt: &R,
     alloc: Global,
-    relay: &Relay<B>,
-    ports: &mut FirstPorts,
-    watched: &mut ReportSource<'_, B, F>,
+    desk: &mut AdminDesk<'_, B, F>,
     wait: &W,
 ) -> Result<W::Answer, NotPrepared> {
-    let times = SystemTimes::since(rt, relay.began);
+    let times = SystemTimes::since(rt, desk.relay.began);
     let end = times.millis().saturating_add(READING_TIMEOUT_MS);
     for _ in rt.forever() {
         if let Some(answer) = wait.look() {
             return Ok(answer);
         }
-        if take_turn(rt, alloc, relay, ports, watched, READING_PAUSE_MS) {
+        if desk.take_turn(rt, alloc, READING_PAUSE_MS) {
             return Err(NotPrepared::Stopped);
         }
         if times.millis() >= end {
@@ -275,7 +255,7 @@ fn wait_for_disk<B: Set, R: Wait + Clock + Net, F: ReloadSource, W: DiskWait>(
 }
 
 /// The refusal of a reload whose files are not open. The log says what was done in their folder.
-fn refused_for<B: Set, R: Wait>(
+fn refusal_of_unopened<B: Set, R: Wait>(
     rt: &R,
     alloc: Global,
     relay: &Relay<B>,
@@ -293,10 +273,7 @@ pub(crate) fn close_late_files<B: Set, R: Wait, F: ReloadSource>(
     files: &F,
 ) {
     match files.opened() {
-        Some(Ok(SpoolFiles { dests, news })) => {
-            drop(dests);
-            relay.say(rt, news);
-        }
+        Some(Ok(opened)) => close_files(rt, relay, opened),
         Some(Err(Unopened { fault, news })) => {
             drop(fault);
             relay.say(rt, news);
@@ -323,15 +300,14 @@ fn disk_users_of<B: Set>(relay: &Relay<B>) -> DiskUsers {
     users
 }
 
-/// Has no thread of a run use the disk before it ends, so that nobody waits for the disk then, and answers commands by these answers
-/// until none does, for ten seconds at most. If the run is not to end, the threads go on.
+/// Has no thread of a run use the disk before it ends, so that nobody waits for the disk then, and answers commands until none does,
+/// for ten seconds at most. If the run is not to end, the threads go on.
 fn halt_disk_use<B: Set, R: Wait + Clock + Net, F: ReloadSource>(
     rt: &R,
     alloc: Global,
-    relay: &Relay<B>,
-    ports: &mut FirstPorts,
-    watched: &mut ReportSource<'_, B, F>,
+    desk: &mut AdminDesk<'_, B, F>,
 ) -> Result<(), NotPrepared> {
+    let relay = desk.relay;
     let users = disk_users_of(relay);
     if users.are_none() {
         return Ok(());
@@ -343,7 +319,7 @@ fn halt_disk_use<B: Set, R: Wait + Clock + Net, F: ReloadSource>(
         signals: relay.state.signals(),
         users,
     };
-    let halted = wait_for_disk(rt, alloc, relay, ports, watched, &wait);
+    let halted = wait_for_disk(rt, alloc, desk, &wait);
     if halted.is_err() {
         stopper.halt_disk_use(false);
         wake_disk_users(relay);
@@ -361,7 +337,7 @@ fn wake_disk_users<B: Set>(relay: &Relay<B>) {
 /// Keeps the answer for the connection that has asked for a run: the line of the log without `relay`, its first word. If out of
 /// memory, the answer is short.
 fn keep_answer<B: Set>(alloc: Global, admin: &mut AdminListener, prepared: &PreparedRun<B>) {
-    let line = prepared.next.line.as_str();
+    let line = prepared.next.made.line.as_str();
     let words = line.strip_prefix("relay ").unwrap_or(line);
     if let Ok(answer) = String::from_str(alloc, words) {
         admin.keep_answer(prepared.next.connection, answer.into_bytes());

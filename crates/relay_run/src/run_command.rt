@@ -143,7 +143,7 @@ enum AfterRun<L> {
     Followed(NextRun<L>),
 }
 
-/// Makes one run after another until one is stopped.
+/// Makes one run after another, each over queues of its own, until one is stopped.
 fn run_all<R: RelayRuntime, W: Write, L: Write + Send + Drop, K: Recorder + Drop, F: ReloadSource>(
     rt: &R,
     alloc: Global,
@@ -164,28 +164,13 @@ fn run_all<R: RelayRuntime, W: Write, L: Write + Send + Drop, K: Recorder + Drop
         number: 1,
     };
     for _ in rt.forever() {
-        match one_run(rt, alloc, next, process, output, &mut recorder) {
+        match run_relay::<Brand, R, W, L, K, F>(rt, alloc, next, process, output, &mut recorder) {
             Ok(AfterRun::Stopped(status)) => return Ok(status),
             Ok(AfterRun::Followed(following)) => next = following,
             Err(fault) => return Err(fault),
         }
     }
     unreachable!()
-}
-
-/// Makes a run, over queues of its own.
-fn one_run<R: RelayRuntime, W: Write, L: Write + Send + Drop, K: Recorder + Drop, F: ReloadSource>(
-    rt: &R,
-    alloc: Global,
-    next: NextRun<L>,
-    process: &Process<'_, F>,
-    output: &mut W,
-    recorder: &mut Option<K>,
-) -> Result<AfterRun<L>, RelayFault>
-    ensures { EndsARun (opening (is_none next.before.waiting))
-        (W.contents output.old) (W.contents output.new) result }
-{
-    run_relay::<Brand, R, W, L, K, F>(rt, alloc, next, process, output, recorder)
 }
 
 /// Opens a relay, lends it to its run, and takes it apart.

@@ -1,16 +1,15 @@
-//! What the first thread does at the end of a run: it has files keep what destinations that are away are not sent, answers commands
-//! until what it waits for is over, and has the log say the last refusals.
+//! What the first thread does at the end of a run: it has files keep what destinations that are away are not sent, and answers
+//! commands until what it waits for is over.
 
 ghost use Rattle.std.specs.Prelude.{◌≡◌};
 
+use crate::admin_desk::AdminDesk;
 use crate::relay::Relay;
 use crate::reload_source::ReloadSource;
-use crate::report_source::ReportSource;
 use admin_port::AdminListener;
 use locked_queues::Set;
 use mio_loops::{SystemTimes, TimeSource};
 use receivers::ClosingWait;
-use relay_ports::FirstPorts;
 use run_state::{Drain, EndState, GoneDrain, Signals, SpoolWait, Unsent};
 use std::alloc::Global;
 use std::net::Net;
@@ -51,20 +50,17 @@ fn away_of<B: Set>(relay: &Relay<B>) -> u64 {
 pub(crate) fn answer_until_drained<R: Wait + Clock + Net, B: Set, F: ReloadSource>(
     rt: &R,
     alloc: Global,
-    listener: &mut AdminListener,
-    relay: &Relay<B>,
-    files: &F,
+    desk: &mut AdminDesk<'_, B, F>,
     end: &EndState,
 ) {
+    let relay = desk.relay;
     let millis = SystemTimes::since(rt, relay.began).millis();
-    let draining = DrainWait::begin(relay, end, millis);
-    answer_until_over(rt, alloc, listener, relay, files, draining);
+    answer_until_over(rt, alloc, desk, DrainWait::begin(relay, end, millis));
     if end.is_spooled() {
         relay.state.stopper().begin_spooling();
         relay.gate.wake_all();
         let millis = SystemTimes::since(rt, relay.began).millis();
-        let writing = FilesWait::begin(relay, end, millis);
-        answer_until_over(rt, alloc, listener, relay, files, writing);
+        answer_until_over(rt, alloc, desk, FilesWait::begin(relay, end, millis));
     }
 }
 
@@ -74,18 +70,19 @@ pub(crate) fn answer_until_over<
     B: Set,
     F: ReloadSource,
     E: EndWait<R> + Drop,
->(rt: &R, alloc: Global, listener: &mut AdminListener, relay: &Relay<B>, files: &F, wait: E) {
+>(rt: &R, alloc: Global, desk: &mut AdminDesk<'_, B, F>, wait: E) {
     let mut wait = wait;
-    let mut watched = ReportSource::new(relay, files, true);
+    let relay = desk.relay;
     let times = SystemTimes::since(rt, relay.began);
     for _ in rt.forever() {
         let millis = times.millis();
         if wait.is_over(rt, millis) {
             return;
         }
-        let _is_stopped = listener.take_turn(rt, alloc, &mut watched, millis, END_PAUSE_MS);
+        let admin = &mut desk.ports.admin;
+        let _is_stopped = admin.take_turn(rt, alloc, &mut desk.source, millis, END_PAUSE_MS);
         if !relay.state.signals().is_handing() {
-            refuse_reload(listener, millis);
+            refuse_reload(admin, millis);
         }
     }
     unreachable!()
@@ -95,19 +92,6 @@ pub(crate) fn answer_until_over<
 fn refuse_reload(listener: &mut AdminListener, millis: u64) {
     if let Some(connection) = listener.next_reload() {
         listener.refuse_reload(connection, millis);
-    }
-}
-
-/// Has the log say the rest of them: no more commands are answered.
-pub(crate) fn say_last_refusals<B: Set, R: Wait>(
-    rt: &R,
-    alloc: Global,
-    relay: &Relay<B>,
-    ports: &mut FirstPorts,
-) {
-    let refusals = ports.admin.refusals();
-    if let Some(line) = ports.said.last_line(alloc, refusals) {
-        relay.late_news.put(rt, line);
     }
 }
 

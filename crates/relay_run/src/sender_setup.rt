@@ -10,6 +10,7 @@ use crate::run_levels::RunLevels;
 use crate::runtime::RelayRuntime;
 use crate::sender_job::SenderJob;
 use locked_queues::{Outlet, OutletSeat, Set};
+use log_lines::DestNotes;
 use mio_loops::Readiness;
 use relay_base::{NoMemory, add};
 use relay_files::RelayFault;
@@ -187,10 +188,23 @@ fn connector_of<'x, B: Set, R: RelayRuntime>(
         sender,
         senders: maker.relay.shape.senders,
     };
+    connector_with(maker, readiness, alarm, share, noted.notes)
+}
+
+/// A connector to the destinations of a share, which notes their events in these.
+pub(crate) fn connector_with<'x, B: Set, R: RelayRuntime>(
+    maker: &JobMaker<'x, B, R>,
+    readiness: Readiness,
+    alarm: &'x Alarm,
+    share: SenderShare<'x>,
+    notes: &'x [DestNotes],
+) -> Result<StoreConnector<'x, R>, RelayFault>
+    ensures { IfErr result (λ fault. is_start_fault fault ≡ true) }
+{
     let (rt, alloc, threads) = (*maker.rt, maker.alloc, maker.hosts);
     match StoreConnector::new(rt, alloc, threads, readiness, alarm, share) {
         Ok(mut connector) => {
-            connector.set_notes(noted.notes);
+            connector.set_notes(notes);
             Ok(connector)
         }
         Err(fault) => Err(output_fault(fault)),

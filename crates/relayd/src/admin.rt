@@ -1,18 +1,20 @@
-//! The commands for a running relay: `report`, `stop` and `reload`.
+//! The commands for a running relay: `report`, `stop`, `restart` and `reload`.
 
 use crate::admin_key::{key_at, slice_of};
-use crate::explain::{notes_of_reload, write};
+use crate::checking::run_check;
+use crate::explain::{notes_of_reload, write, write_start_notes};
 use crate::file_limit::limited_output;
 use crate::json_report::json_report;
+use crate::open_files::Files;
 use crate::started_paths::paths_in;
 use admin_client::{
     AdminCommand, AdminFault, Refusal, RelayAt, ReloadAnswer, answer_to, ask, reload_answer_in,
     stop_and_wait,
 };
-use command_line::{AdminAt, Explain, OutputForm};
+use command_line::{AdminAt, Explain, OutputForm, Paths};
 use note_text::Notes;
 use relay_base::NoMemory;
-use relay_files::{Status, write_out};
+use relay_files::{RelayFault, Status, write_out};
 use std::alloc::Global;
 use std::io::{IsTerminal, Write};
 
@@ -81,6 +83,21 @@ pub fn stop(rt: &HostRuntime, alloc: Global, admin: &AdminAt, waits: bool) -> St
         ask(rt, alloc, relay, AdminCommand::Stop, &mut output)
     };
     status_of(rt, admin.port, ended)
+}
+
+/// Stops the relay with this admin port, and waits for its end, if the files at these paths are a configuration.
+pub fn restart<'a>(
+    files: &'a Files<'a>,
+    alloc: Global,
+    paths: &'a Paths,
+    admin: &AdminAt,
+    explain: Explain,
+) -> Result<Status, RelayFault> {
+    run_check(files, alloc, paths, OutputForm::Text)?;
+    if explain != Explain::Nothing {
+        write_start_notes(files, alloc, paths);
+    }
+    Ok(stop(files.runtime(), alloc, admin, true))
 }
 
 /// Has the relay with this admin port read its files again, and prints what it answers: `reloaded` and what changed, or on

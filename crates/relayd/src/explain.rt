@@ -18,78 +18,83 @@ use std::alloc::Global;
 use std::io::{Stderr, Stdin, Write};
 use std::time::Instant;
 
-/// Writes the notes that a run was asked for, and returns how it ends. If there is no memory for them, there are none. A
-/// run that was not asked for notes, and has a fault, has a hint at a terminal.
+/// How a command ended: its status, and its fault, if it had one.
+#[derive(Clone, Copy)]
+pub struct CommandEnd {
+    pub status: Status,
+    pub fault: Option<RelayFault>,
+}
+
+/// Writes the notes that a command was asked for, and returns how it ends. If there is no memory for them, there are none. One that
+/// was not asked for notes, and has a fault, has a hint at a terminal.
 pub fn end_with_notes(
     files: &Files<'_>,
     alloc: Global,
     invocation: &Invocation,
-    status: Status,
-    fault: Option<RelayFault>,
+    end: CommandEnd,
 ) -> Status {
-    let rt = files.runtime();
     let (paths, explain) = match invocation {
         // A reload has written its notes, of the files that the relay has named.
         Invocation::Report { .. }
         | Invocation::Watch { .. }
         | Invocation::Stop { .. }
-        | Invocation::Reload { .. } => {
-            return status;
-        }
-        Invocation::Pass {
-            explain,
-            ignores_files,
-            ..
-        } => {
-            if *ignores_files && *explain != Explain::Nothing {
-                let _ = rt.stderr().write_all(FILES_OF_PASS.as_bytes());
+        | Invocation::Reload { .. } => return end.status,
+        Invocation::Pass(command) => {
+            if command.ignores_files && command.explain != Explain::Nothing {
+                let _ = files.runtime().stderr().write_all(FILES_OF_PASS.as_bytes());
             }
-            return status;
+            return end.status;
         }
-        Invocation::LiveRoute { asked, explain, .. } => {
-            if *explain != Explain::Nothing && status != Status::NoMemory {
-                let _ = write(rt, notes_of_asked(files, alloc, asked));
+        Invocation::LiveRoute(command) => {
+            if command.explain != Explain::Nothing && end.status != Status::NoMemory {
+                write_asked_notes(files, alloc, &command.asked);
             }
-            return status;
+            return end.status;
         }
-        Invocation::Check { paths, explain, .. }
-        | Invocation::Route { paths, explain, .. }
-        | Invocation::RouteNames { paths, explain, .. }
-        | Invocation::Replay { paths, explain, .. }
-        | Invocation::ReplayLines { paths, explain, .. }
-        | Invocation::Run { paths, explain, .. }
-        | Invocation::Restart { paths, explain, .. } => (paths, *explain),
+        Invocation::Check(command) => (&command.paths, command.explain),
+        Invocation::Route(command) => (&command.paths, command.explain),
+        Invocation::Replay(command) => (&command.paths, command.explain),
+        Invocation::Run(command) => (&command.paths, command.explain),
+        Invocation::Restart { paths, explain, .. } => (paths, *explain),
     };
-    if status == Status::NoMemory {
-        return status;
+    if end.status == Status::NoMemory || has_had_notes(invocation, end) {
+        return end.status;
     }
-    // A relay that was stopped has had its notes at its start, and so has one that is restarted.
-    if matches!(
-        invocation,
-        Invocation::Run { .. } | Invocation::Restart { .. }
-    ) && fault.is_none()
-    {
-        return status;
+    match (explain, end.fault) {
+        (Explain::Nothing, None) => {}
+        (Explain::Nothing, Some(fault)) => write_hint(files, alloc, invocation, paths, fault),
+        _ => return end_explained(files, alloc, invocation, paths, explain, end),
     }
-    if explain == Explain::Nothing {
-        if let Some(fault) = fault {
-            write_hint(files, alloc, invocation, paths, fault);
-        }
-        return status;
-    }
-    let wanted = if explain == Explain::StrictNotes {
+    end.status
+}
+
+/// Whether a command has had its notes at its start: a relay that was stopped, and one that is restarted.
+fn has_had_notes(invocation: &Invocation, end: CommandEnd) -> bool {
+    matches!(invocation, Invocation::Run(_) | Invocation::Restart { .. }) && end.fault.is_none()
+}
+
+/// Writes the notes of a command over the files at these paths, and returns how it ends.
+fn end_explained(
+    files: &Files<'_>,
+    alloc: Global,
+    invocation: &Invocation,
+    paths: &Paths,
+    explain: Explain,
+    end: CommandEnd,
+) -> Status {
+    let rt = files.runtime();
+    let is_strict = explain == Explain::StrictNotes;
+    let wanted = if is_strict {
         NotesWanted::Mistakes
     } else {
         NotesWanted::All
     };
-    let mut output = NoteOutput::new(rt, alloc, invocation, paths, fault.is_some());
+    let mut output = NoteOutput::new(rt, alloc, invocation, paths, end.fault.is_some());
     output.write(notes_of(files, alloc, invocation, paths, wanted));
-    if let Invocation::Check {
-        spool: Some(folder),
-        ..
-    } = invocation
-    {
-        output.write(notes_of_spool(files, alloc, paths, folder));
+    if let Invocation::Check(command) = invocation {
+        if let Some(folder) = &command.spool {
+            output.write(notes_of_spool(files, alloc, paths, folder));
+        }
     }
     let (has_notes, failure) = (output.has_notes(), output.failure());
     drop(output);
@@ -97,22 +102,16 @@ pub fn end_with_notes(
         let _ = eprintln!(rt; "relayd: {failure}");
         return failure.status();
     }
-    if let Some(fault) = fault {
+    if let Some(fault) = end.fault {
         write_fault_notes(files, alloc, invocation, fault);
     }
-    match invocation {
-        Invocation::Route { name, .. } => {
-            let _ = write(rt, notes_of_name(alloc, name));
-        }
-        Invocation::RouteNames { names, .. } => {
-            let _ = write(rt, notes_of_names_at(files, alloc, names));
-        }
-        _ => {}
+    if let Invocation::Route(command) = invocation {
+        write_asked_notes(files, alloc, &command.asked);
     }
-    if explain == Explain::StrictNotes && has_notes && status == Status::Done {
+    if is_strict && has_notes && end.status == Status::Done {
         return Status::ConfigurationFault;
     }
-    status
+    end.status
 }
 
 /// Writes the notes of the files at these paths, which were checked and have no fault, as `check` writes them. If there is no
@@ -127,14 +126,12 @@ pub fn write_start_notes(files: &Files<'_>, alloc: Global, paths: &Paths) {
 /// Whether a command reads files again for notes.
 pub fn wants_notes(invocation: &Invocation) -> bool {
     match invocation {
-        Invocation::Check { explain, .. }
-        | Invocation::Route { explain, .. }
-        | Invocation::RouteNames { explain, .. }
-        | Invocation::LiveRoute { explain, .. }
-        | Invocation::Replay { explain, .. }
-        | Invocation::ReplayLines { explain, .. }
-        | Invocation::Run { explain, .. }
-        | Invocation::Restart { explain, .. } => *explain != Explain::Nothing,
+        Invocation::Check(command) => command.explain != Explain::Nothing,
+        Invocation::Route(command) => command.explain != Explain::Nothing,
+        Invocation::LiveRoute(command) => command.explain != Explain::Nothing,
+        Invocation::Replay(command) => command.explain != Explain::Nothing,
+        Invocation::Run(command) => command.explain != Explain::Nothing,
+        Invocation::Restart { explain, .. } => *explain != Explain::Nothing,
         _ => false,
     }
 }
@@ -162,12 +159,13 @@ fn notes_of_spool(
     notes
 }
 
-/// Notes of the names of which a running relay was asked.
-fn notes_of_asked(files: &Files<'_>, alloc: Global, asked: &AskedNames) -> Result<Notes, NoMemory> {
-    match asked {
+/// Writes the notes of the names of which `route` was asked.
+fn write_asked_notes(files: &Files<'_>, alloc: Global, asked: &AskedNames) {
+    let notes = match asked {
         AskedNames::Name(name) => notes_of_name(alloc, name),
         AskedNames::File(path) => notes_of_names_at(files, alloc, path),
-    }
+    };
+    let _ = write(files.runtime(), notes);
 }
 
 /// Notes of a file of names.
@@ -197,9 +195,9 @@ fn notes_of(
     wanted: NotesWanted,
 ) -> Result<Notes, NoMemory> {
     match invocation {
-        Invocation::Run { .. } | Invocation::Restart { .. } => fault_notes_at(files, alloc, paths),
+        Invocation::Run(_) | Invocation::Restart { .. } => fault_notes_at(files, alloc, paths),
         _ => {
-            let is_check = matches!(invocation, Invocation::Check { .. });
+            let is_check = matches!(invocation, Invocation::Check(_));
             notes_at(files, alloc, paths, is_check, wanted)
         }
     }

@@ -9,7 +9,7 @@ use crate::strict::input_at;
 use admin_client::{
     AdminCommand, AdminFault, LONGEST_ROUTED, RelayAt, RouteAnswer, answer_about, route_answer_in,
 };
-use command_line::{AdminAt, AskedNames, OutputForm, RouteOutput};
+use command_line::{AskedNames, LiveRouteCommand, OutputForm};
 use line_text::Name;
 use log_format::{push_key, push_member, push_string};
 use relay_base::{NoMemory, utf8_text};
@@ -36,11 +36,10 @@ struct LiveRoutes<'r> {
 pub fn run_live_route<'a>(
     files: &'a Files<'a>,
     alloc: Global,
-    admin: &AdminAt,
-    asked: &'a AskedNames,
-    wanted: RouteOutput,
+    command: &'a LiveRouteCommand,
 ) -> Result<Status, RelayFault> {
     let rt = files.runtime();
+    let (admin, asked, wanted) = (&command.admin, &command.asked, command.output);
     let key = match key_at(rt, alloc, &admin.key) {
         Ok(key) => key,
         Err(status) => return Ok(status),

@@ -32,7 +32,7 @@ impl<'a> NoteOutput<'a> {
         is_fault: bool,
     ) -> NoteOutput<'a> {
         let form = match invocation {
-            Invocation::Check { form, .. } => *form,
+            Invocation::Check(command) => command.form,
             _ => OutputForm::Text,
         };
         NoteOutput {

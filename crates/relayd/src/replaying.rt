@@ -4,55 +4,52 @@ use crate::file_limit::limited_output;
 use crate::files::{file_at, sources_at};
 use crate::open_files::Files;
 use crate::strict::{StrictFiles, input_at};
-use command_line::Paths;
+use command_line::{ReplayCommand, ReplayInput};
 use relay_commands::{HandedForm, replay, replay_lines};
 use relay_files::{RelayFault, Role, Status};
 use std::alloc::Global;
+use std::io::Write;
 
-/// Replays the script at a path.
+/// Replays a script or lines to standard output.
 pub fn run_replay<'a>(
     files: &'a Files<'a>,
     alloc: Global,
-    paths: &'a Paths,
-    script: &'a String,
-    form: HandedForm,
-    is_strict: bool,
+    command: &'a ReplayCommand,
 ) -> Result<Status, RelayFault> {
     let mut output = limited_output(files.runtime());
-    if is_strict {
-        let mut read = StrictFiles::read(files, alloc, paths)?;
-        let script = input_at(files, alloc, Role::Script, script)?;
-        return read.replay(alloc, &script, form, &mut output);
+    if command.is_strict {
+        return replay_strictly(files, alloc, command, &mut output);
     }
-    replay(
-        alloc,
-        &mut sources_at(files, alloc, paths)?,
-        &mut file_at(files, script),
-        form,
-        &mut output,
-    )
+    let form = handed_form(command);
+    let mut sources = sources_at(files, alloc, &command.paths)?;
+    let mut input = file_at(files, command.input.path());
+    match command.input {
+        ReplayInput::Script(_) => replay(alloc, &mut sources, &mut input, form, &mut output),
+        ReplayInput::Lines(_) => replay_lines(alloc, &mut sources, &mut input, form, &mut output),
+    }
 }
 
-/// Replays the lines of the file at a path.
-pub fn run_replay_lines<'a>(
+/// Replays them, and ends with a fault if a datapoint gets nowhere.
+fn replay_strictly<'a, W: Write>(
     files: &'a Files<'a>,
     alloc: Global,
-    paths: &'a Paths,
-    lines: &'a String,
-    form: HandedForm,
-    is_strict: bool,
+    command: &'a ReplayCommand,
+    output: &mut W,
 ) -> Result<Status, RelayFault> {
-    let mut output = limited_output(files.runtime());
-    if is_strict {
-        let mut read = StrictFiles::read(files, alloc, paths)?;
-        let lines = input_at(files, alloc, Role::Script, lines)?;
-        return read.replay_lines(alloc, &lines, form, &mut output);
+    let form = handed_form(command);
+    let mut read = StrictFiles::read(files, alloc, &command.paths)?;
+    let input = input_at(files, alloc, Role::Script, command.input.path())?;
+    match command.input {
+        ReplayInput::Script(_) => read.replay(alloc, &input, form, output),
+        ReplayInput::Lines(_) => read.replay_lines(alloc, &input, form, output),
     }
-    replay_lines(
-        alloc,
-        &mut sources_at(files, alloc, paths)?,
-        &mut file_at(files, lines),
-        form,
-        &mut output,
-    )
+}
+
+/// How a replay shows what a connection got.
+fn handed_form(command: &ReplayCommand) -> HandedForm {
+    if command.shows_text {
+        HandedForm::DigitsAndText
+    } else {
+        HandedForm::Digits
+    }
 }

@@ -7,19 +7,31 @@ use crate::json_route::JsonRoutes;
 use crate::names_lines::{WritesNames, write_names};
 use crate::open_files::Files;
 use crate::strict::{StrictFiles, input_at};
-use command_line::{OutputForm, Paths, RouteOutput};
+use command_line::{AskedNames, OutputForm, RouteCommand};
 use relay_commands::{route, route_names};
 use relay_files::{RelayFault, Role, Status, flush};
 use std::alloc::Global;
 
-/// Routes a name to standard output.
+/// Routes a name, or the names of a file, to standard output.
 pub fn run_route<'a>(
     files: &'a Files<'a>,
     alloc: Global,
-    paths: &'a Paths,
-    name: &String,
-    wanted: RouteOutput,
+    command: &'a RouteCommand,
 ) -> Result<Status, RelayFault> {
+    match &command.asked {
+        AskedNames::Name(name) => run_route_name(files, alloc, command, name),
+        AskedNames::File(names) => run_route_names(files, alloc, command, names),
+    }
+}
+
+/// Routes a name to standard output.
+fn run_route_name<'a>(
+    files: &'a Files<'a>,
+    alloc: Global,
+    command: &'a RouteCommand,
+    name: &String,
+) -> Result<Status, RelayFault> {
+    let (paths, wanted) = (&command.paths, command.output);
     let mut output = limited_output(files.runtime());
     match wanted.form {
         OutputForm::Json => {
@@ -43,13 +55,13 @@ pub fn run_route<'a>(
 }
 
 /// Routes the names of a file to standard output, and reports the bad ones on standard error.
-pub fn run_route_names<'a>(
+fn run_route_names<'a>(
     files: &'a Files<'a>,
     alloc: Global,
-    paths: &'a Paths,
+    command: &'a RouteCommand,
     names: &'a String,
-    wanted: RouteOutput,
 ) -> Result<Status, RelayFault> {
+    let (paths, wanted) = (&command.paths, command.output);
     let rt = files.runtime();
     let mut output = buffered_output(rt, alloc)?;
     let mut notes = rt.stderr();

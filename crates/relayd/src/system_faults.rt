@@ -3,7 +3,7 @@
 use crate::explain::write;
 use crate::open_files::Files;
 use crate::reread_files::RereadFile;
-use command_line::{Invocation, Paths};
+use command_line::{Invocation, Paths, ReplayInput};
 use conf_text::{Ini, Settings};
 use fault_notes::{SystemNotes, notes_of_script, notes_of_unreadable, open_file_limit};
 use note_text::Notes;
@@ -23,27 +23,26 @@ pub fn write_fault_notes(
     invocation: &Invocation,
     fault: RelayFault,
 ) {
-    match (fault, invocation) {
-        (RelayFault::CannotRead { role: Role::Names }, Invocation::RouteNames { names, .. }) => {
-            let _ = write(files.runtime(), unreadable(files, alloc, names));
+    let notes = match (fault, invocation) {
+        (RelayFault::CannotRead { role }, _) => match input_of(invocation, role) {
+            Some(path) => unreadable(files, alloc, path),
+            None => return,
+        },
+        (RelayFault::Script { line }, Invocation::Replay(command)) => {
+            script_notes(files, alloc, command.input.path(), line)
         }
-        (
-            RelayFault::CannotRead { role: Role::Script },
-            Invocation::Replay { script: path, .. } | Invocation::ReplayLines { lines: path, .. },
-        ) => {
-            let _ = write(files.runtime(), unreadable(files, alloc, path));
+        (RelayFault::NotText { role: Role::Script }, Invocation::Replay(command)) => {
+            match &command.input {
+                ReplayInput::Script(path) => script_notes(files, alloc, path, 0),
+                ReplayInput::Lines(_) => return,
+            }
         }
-        (RelayFault::Script { line }, Invocation::Replay { script, .. }) => {
-            let _ = write(files.runtime(), script_notes(files, alloc, script, line));
+        (RelayFault::Listen { .. }, Invocation::Run(command)) => {
+            port_notes(files, alloc, &command.paths, command.options)
         }
-        (RelayFault::NotText { role: Role::Script }, Invocation::Replay { script, .. }) => {
-            let _ = write(files.runtime(), script_notes(files, alloc, script, 0));
-        }
-        (RelayFault::Listen { .. }, Invocation::Run { paths, options, .. }) => {
-            let _ = write(files.runtime(), port_notes(files, alloc, paths, *options));
-        }
-        _ => {}
-    }
+        _ => return,
+    };
+    let _ = write(files.runtime(), notes);
 }
 
 /// The hint after a fault, at a terminal.
@@ -82,9 +81,15 @@ fn path_of<'i>(invocation: &'i Invocation, paths: &'i Paths, role: Role) -> Opti
         (Role::Config, _) => Some(&paths.config),
         (Role::Rules, _) => paths.rules.as_ref(),
         (Role::Rewrite, _) => paths.rewrite.as_ref(),
-        (Role::Names, Invocation::RouteNames { names, .. }) => Some(names),
-        (Role::Script, Invocation::Replay { script: path, .. })
-        | (Role::Script, Invocation::ReplayLines { lines: path, .. }) => Some(path),
+        (Role::Names | Role::Script, _) => input_of(invocation, role),
+    }
+}
+
+/// The path of the file of names, of the script or of the lines that a command reads, if it reads one.
+fn input_of(invocation: &Invocation, role: Role) -> Option<&String> {
+    match (role, invocation) {
+        (Role::Names, Invocation::Route(command)) => command.asked.path(),
+        (Role::Script, Invocation::Replay(command)) => Some(command.input.path()),
         _ => None,
     }
 }

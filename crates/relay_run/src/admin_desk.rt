@@ -1,4 +1,4 @@
-//! What the answers of the admin port are made of.
+//! Who answers the commands at the admin port of a run, turn by turn, and what the answers are made of.
 
 ghost use Rattle.std.specs.Prelude.{◌≡◌, length};
 
@@ -8,13 +8,75 @@ use admin_port::Answers;
 use admin_report::{FileCounts, ReportLine, report_with_files};
 use live_watch::WatchDesk;
 use locked_queues::{Queues, Set};
+use mio_loops::{SystemTimes, TimeSource};
 use relay_base::{DestId, NoMemory, add};
 use relay_commands::LiveRoutes;
+use relay_ports::FirstPorts;
 use run_state::DestSources;
 use spool::{Waiting, clock_seconds};
 use std::alloc::Global;
+use std::net::Net;
 use std::rt::Clock;
 use std::sync::Wait;
+
+/// Who answers the commands of a relay: at one of these ports of the first thread, from this source.
+#[derive(Drop)]
+pub(crate) struct AdminDesk<'p, B: Set, F> {
+    pub(crate) relay: &'p Relay<B>,
+    pub(crate) ports: &'p mut FirstPorts,
+    pub(crate) source: ReportSource<'p, B, F>,
+}
+
+impl<'p, B: Set, F> AdminDesk<'p, B, F> {
+    /// The desk of a relay with these ports and files. A run that ends opens no watch.
+    pub(crate) fn new(
+        relay: &'p Relay<B>,
+        ports: &'p mut FirstPorts,
+        files: &'p F,
+        is_ending: bool,
+    ) -> AdminDesk<'p, B, F> {
+        AdminDesk {
+            relay,
+            ports,
+            source: ReportSource::new(relay, files, is_ending),
+        }
+    }
+}
+
+impl<'p, B: Set, F: ReloadSource> AdminDesk<'p, B, F> {
+    /// Answers commands for a turn, and before that says which connections were refused what they asked for, and takes what
+    /// receivers handed over for watches. It waits for so many milliseconds at most. Returns whether a command was `stop`.
+    pub(crate) fn take_turn<R: Wait + Clock + Net>(
+        &mut self,
+        rt: &R,
+        alloc: Global,
+        pause: u64,
+    ) -> bool {
+        let times = SystemTimes::since(rt, self.relay.began);
+        let millis = times.millis();
+        self.say_refusals(rt, alloc, millis);
+        self.source.watch_desk.drain(alloc, millis, times.moment());
+        self.ports
+            .admin
+            .take_turn(rt, alloc, &mut self.source, millis, pause)
+    }
+
+    /// Has the log say which connections were refused what they asked for, once a minute at most.
+    fn say_refusals<R: Wait>(&mut self, rt: &R, alloc: Global, millis: u64) {
+        let refusals = self.ports.admin.refusals();
+        if let Some(line) = self.ports.said.line(alloc, refusals, millis) {
+            self.relay.late_news.put(rt, line);
+        }
+    }
+
+    /// Has the log say the rest of them: no more commands are answered.
+    pub(crate) fn say_last_refusals<R: Wait>(&mut self, rt: &R, alloc: Global) {
+        let refusals = self.ports.admin.refusals();
+        if let Some(line) = self.ports.said.last_line(alloc, refusals) {
+            self.relay.late_news.put(rt, line);
+        }
+    }
+}
 
 /// What answers are made of: the queues of a relay with their destinations, the names of its files, its routes, and who opens
 /// watches.
@@ -24,7 +86,7 @@ pub(crate) struct ReportSource<'x, B: Set, F> {
     noted: DestSources<'x>,
     pub(crate) files: &'x F,
     routes: LiveRoutes<'x>,
-    pub(crate) desk: WatchDesk<'x>,
+    pub(crate) watch_desk: WatchDesk<'x>,
     ghost all: { length noted.dests.now ≡ B.dests },
 }
 
@@ -40,7 +102,7 @@ impl<'x, B: Set, F> ReportSource<'x, B, F> {
             noted: relay.noted(),
             files,
             routes: LiveRoutes::new(&relay.configuration),
-            desk: desk_of(relay, is_ending),
+            watch_desk: desk_of(relay, is_ending),
         }
     }
 
@@ -102,7 +164,7 @@ impl<'x, B: Set, F: ReloadSource, R: Wait + Clock> Answers<R> for ReportSource<'
     }
 
     fn watch(&mut self, alloc: Global, asked: &[u8], millis: u64) -> Result<Vec<u8>, NoMemory> {
-        self.desk.answer(alloc, asked, millis)
+        self.watch_desk.answer(alloc, asked, millis)
     }
 
     fn key(&self) -> Option<&[u8]> {
