@@ -5,9 +5,8 @@ ghost use Rattle.std.specs.String.{string_bytes};
 ghost use Rattle.line_text.specs.Name.{is_name};
 ghost use Rattle.relay_commands.specs.LiveRoute.{live_line, live_answer, configured_answer};
 
-use crate::route_command::{point_named, push_sent};
+use crate::route_command::{push_sent, routed_by};
 use conf_text::Dest;
-use line_text::NameFault;
 use relay_base::{NoMemory, put};
 use relay_files::RunConfiguration;
 use router::{Plan, Sent};
@@ -79,13 +78,10 @@ fn answer_by(
         (λ answer. string_bytes answer ≡ live_answer plan.old dests.now name.now)) }
     ensures same { plan.new ≡ plan.old }
 {
-    let point = match point_named(alloc, name) {
-        Ok(point) => point,
-        Err(NameFault::BadName) => return Ok(None),
-        Err(NameFault::NoMemory) => return Err(NoMemory),
-    };
-    let sent = plan.send(&point)?;
-    Ok(Some(live_line(alloc, dests, &sent)?))
+    match routed_by(alloc, plan, name)? {
+        Some(routed) => Ok(Some(live_line(alloc, dests, &routed.sent)?)),
+        None => Ok(None),
+    }
 }
 
 /// The answer for what is sent.

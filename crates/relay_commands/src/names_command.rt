@@ -8,10 +8,9 @@ ghost use Rattle.relay_files.specs.Files.{ReadAs, AllReadAs};
 ghost use Rattle.relay_files.specs.Output.{Writes, GrowsByPart};
 ghost use Rattle.relay_commands.specs.Names.{name_before, line_after_name, named_line, name_text, name_note, bad_name_line, is_newline, lines_in, lines_left, names_text, names_notes, names_answer, names_notes_answer, IsWriteFault, FailsNames};
 
-use crate::route_command::{point_named, push_sent};
+use crate::route_command::{Routed, push_sent, routed_by};
 use conf_text::Dest;
-use line_text::{NameFault, NoMemory};
-use relay_base::strip_bytes;
+use relay_base::{NoMemory, strip_bytes};
 use relay_files::{
     Configuration, RelayFault, Role, Source, Sources, Status, flush, read_source, write_all,
 };
@@ -81,6 +80,15 @@ pub fn route_names<S: Source, T: Source, W: Write, N: Write>(
     Ok(Status::Done)
 }
 
+/// A line of the file of names.
+#[derive(Clone, Copy)]
+struct NamesLine<'t> {
+    /// Its number, from 1.
+    number: usize,
+    /// What it says, stripped.
+    name: &'t [u8],
+}
+
 /// Writes what becomes of the name of each line of a text, and notes the lines that have a bad one.
 fn route_lines<W: Write, N: Write>(
     alloc: Global,
@@ -103,9 +111,13 @@ fn route_lines<W: Write, N: Write>(
     let mut left = Some(text);
     let mut number = 0;
     while let Some(lines) = left {
-        let (line, others) = cut_line(lines);
+        let (first, others) = cut_line(lines);
         number += 1;
-        route_one(alloc, plan, dests, number, strip_bytes(line), output, notes)?;
+        let line = NamesLine {
+            number,
+            name: strip_bytes(first),
+        };
+        route_one(alloc, plan, dests, line, output, notes)?;
         left = others;
     }
     Ok(())
@@ -128,33 +140,32 @@ fn first_newline(text: &[u8]) -> Option<usize>
     text.iter().position(|byte| *byte == b'\n')
 }
 
-/// Writes what becomes of the name that the line with this number has, or notes that it has a bad one.
+/// Writes what becomes of the name that a line has, or notes that it has a bad one.
 fn route_one<W: Write, N: Write>(
     alloc: Global,
     plan: &mut Plan,
     dests: &[Dest],
-    number: usize,
-    name: &[u8],
+    line: NamesLine<'_>,
     output: &mut W,
     notes: &mut N,
 ) -> Result<(), RelayFault>
     ensures output { OnOk result (Appends (W.contents output.old) (W.contents output.new)
-        (name_text plan.old dests.now name.now)) }
+        (name_text plan.old dests.now line.entry.name.now)) }
     ensures notes { OnOk result (Appends (N.contents notes.old) (N.contents notes.new)
-        (name_note number name.now)) }
+        (name_note line.entry.number line.entry.name.now)) }
     ensures part { GrowsByPart (W.contents output.old) (W.contents output.new)
-        (name_text plan.old dests.now name.now) }
+        (name_text plan.old dests.now line.entry.name.now) }
     ensures notes_part { GrowsByPart (N.contents notes.old) (N.contents notes.new)
-        (name_note number name.now) }
+        (name_note line.entry.number line.entry.name.now) }
     ensures same { plan.new ≡ plan.old }
     ensures fault { IfErr result IsWriteFault }
 {
-    if name.is_empty() {
+    if line.name.is_empty() {
         return Ok(());
     }
-    match line_of_name(alloc, plan, dests, name)? {
-        Some(line) => write_all(output, line.as_str().as_bytes())?,
-        None => note_bad_name(alloc, number, notes)?,
+    match line_of_name(alloc, plan, dests, line.name)? {
+        Some(answer) => write_all(output, answer.as_str().as_bytes())?,
+        None => note_bad_name(alloc, line.number, notes)?,
     }
     Ok(())
 }
@@ -171,14 +182,13 @@ fn line_of_name(
         × (is_name name.now ≡ true))) }
     ensures same { plan.new ≡ plan.old }
 {
-    let point = match point_named(alloc, name) {
-        Ok(point) => point,
-        Err(NameFault::BadName) => return Ok(None),
-        Err(NameFault::NoMemory) => return Err(NoMemory),
-    };
-    let sent = plan.send(&point)?;
-    let line = line_after_name(alloc, dests, point.name.text(), &sent)?;
-    Ok(Some(line))
+    match routed_by(alloc, plan, name)? {
+        Some(Routed { point, sent }) => {
+            let line = line_after_name(alloc, dests, point.name.text(), &sent)?;
+            Ok(Some(line))
+        }
+        None => Ok(None),
+    }
 }
 
 /// The line of what is sent, after the name if rewriting changed it.

@@ -1,6 +1,6 @@
 //! `relayd route NAME`: where a configuration sends a metric.
 
-ghost use Rattle.std.specs.Prelude.{◌≡◌, ◌++◌, ◌⊎◌, true, false, Ok, IfOk, IfErr, OnOk, option_copied, slice_get};
+ghost use Rattle.std.specs.Prelude.{◌≡◌, ◌++◌, ◌⊎◌, true, false, Ok, IfOk, IfErr, OnOk, MatchOption, option_copied, slice_get};
 ghost use Rattle.std.specs.String.{string_bytes};
 ghost use Rattle.line_text.specs.Name.{is_name};
 ghost use Rattle.relay_files.specs.Files.{AllReadAs};
@@ -13,7 +13,7 @@ use conf_text::Dest;
 use line_text::{Name, NameFault, Point, Value};
 use relay_base::{DestId, NoMemory};
 use relay_files::{Configuration, RelayFault, Source, Sources, Status, write_out};
-use router::Sent;
+use router::{Plan, Sent};
 use std::alloc::{AllocError, Global};
 use std::fmt::Write as _;
 use std::io::Write;
@@ -84,7 +84,7 @@ fn line_under(
 }
 
 /// A datapoint with a name. What becomes of it does not depend on the rest.
-pub(crate) fn point_named(alloc: Global, name: &[u8]) -> Result<Point, NameFault>
+fn point_named(alloc: Global, name: &[u8]) -> Result<Point, NameFault>
     ensures ok { IfOk result (λ point. (point ≡ point_named name.now) × (is_name name.now ≡ true)) }
     ensures err { IfErr result (λ fault. (fault ≡ NameFault.NoMemory)
         ⊎ ((fault ≡ NameFault.BadName) × (is_name name.now ≡ false))) }
@@ -96,6 +96,34 @@ pub(crate) fn point_named(alloc: Global, name: &[u8]) -> Result<Point, NameFault
         value: Value::of_whole(0),
         time: 0,
     })
+}
+
+/// A datapoint with the name of a text, and what a plan sends of it.
+#[derive(Drop)]
+pub(crate) struct Routed {
+    pub(crate) point: Point,
+    pub(crate) sent: Sent,
+}
+
+/// What a plan does with a name, or `None` if the text is not a name.
+pub(crate) fn routed_by(
+    alloc: Global,
+    plan: &mut Plan,
+    name: &[u8],
+) -> Result<Option<Routed>, NoMemory>
+    ensures routed { IfOk result (λ routed. MatchOption routed (is_name name.now ≡ false)
+        (λ routed. (routed.point ≡ point_named name.now)
+        × (routed.sent ≡ sent_by plan.old (point_named name.now))
+        × (is_name name.now ≡ true))) }
+    ensures same { plan.new ≡ plan.old }
+{
+    let point = match point_named(alloc, name) {
+        Ok(point) => point,
+        Err(NameFault::BadName) => return Ok(None),
+        Err(NameFault::NoMemory) => return Err(NoMemory),
+    };
+    let sent = plan.send(&point)?;
+    Ok(Some(Routed { point, sent }))
 }
 
 /// The line of what is sent.

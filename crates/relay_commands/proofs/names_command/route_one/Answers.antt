@@ -11,15 +11,15 @@ noted number name some bad = rw (some, bad) refl
 
 pub returns-in_err-note_bad_name-in-None-clause-notes_part : goal.returns-in_err-note_bad_name-in-None-clause-notes_part
 returns-in_err-note_bad_name-in-None-clause-notes_part g c =
-    let note = noted c.args.number c.args.name.now (sym c.is_empty.ensures ∙ c.if-is_empty.false) (rw c.in-None.is at c.in_ok-line.ensures.line) in
+    let note = noted c.args.line.number c.args.line.name.now (sym c.is_empty.ensures ∙ c.if-is_empty.false) (rw c.in-None.is at c.in_ok-answer.ensures.line) in
     subst (GrowsByPart (g.N.Write.contents c.args.notes.now) (g.N.Write.contents c.note_bad_name.new.notes)) note c.note_bad_name.ensures.part
 
 pub returns-in_ok-note_bad_name-in-None-clause-notes : goal.returns-in_ok-note_bad_name-in-None-clause-notes
 returns-in_ok-note_bad_name-in-None-clause-notes g c =
-    let note = noted c.args.number c.args.name.now (sym c.is_empty.ensures ∙ c.if-is_empty.false) (rw c.in-None.is at c.in_ok-line.ensures.line) in
+    let note = noted c.args.line.number c.args.line.name.now (sym c.is_empty.ensures ∙ c.if-is_empty.false) (rw c.in-None.is at c.in_ok-answer.ensures.line) in
     subst (Appends (g.N.Write.contents c.args.notes.now) (g.N.Write.contents c.note_bad_name.new.notes)) note c.in_ok-note_bad_name-in-None.ensures.notes
 
 pub returns-in_ok-note_bad_name-in-None-clause-notes_part : goal.returns-in_ok-note_bad_name-in-None-clause-notes_part
 returns-in_ok-note_bad_name-in-None-clause-notes_part g c =
-    let note = noted c.args.number c.args.name.now (sym c.is_empty.ensures ∙ c.if-is_empty.false) (rw c.in-None.is at c.in_ok-line.ensures.line) in
+    let note = noted c.args.line.number c.args.line.name.now (sym c.is_empty.ensures ∙ c.if-is_empty.false) (rw c.in-None.is at c.in_ok-answer.ensures.line) in
     subst (GrowsByPart (g.N.Write.contents c.args.notes.now) (g.N.Write.contents c.note_bad_name.new.notes)) note c.note_bad_name.ensures.part
