@@ -36,7 +36,7 @@ pub use admin_command::{
 pub use admin_fault::AdminFault;
 pub use admin_key::{Asked, LEAST_KEY, LONGEST_KEY, WRONG_KEY, asked_in, behind_key, key_in};
 pub use client::{RelayAt, answer_about, answer_to, ask, stop_and_wait};
-pub use reload_answer::{RELOADED, Refusal, ReloadAnswer, reload_answer_in};
+pub use reload_answer::{REFUSED_FOR_MEMORY, RELOADED, Refusal, ReloadAnswer, reload_answer_in};
 pub use reload_files::{ReloadFiles, can_be_named, files_answer, reload_files_in};
 pub use route_answer::{DROPPED, ROUTED, RouteAnswer, route_answer_in};
 pub use watch_answer::{

@@ -7,6 +7,9 @@ ghost use Rattle.admin_client.specs.ReloadText.{end_of};
 /// The answer to `reload` of a relay that runs by what its files say now, if it has no memory to say what changed.
 pub const RELOADED: &[u8] = b"reloaded\n";
 
+/// The answer to `reload` of a relay that has no memory to say more.
+pub const REFUSED_FOR_MEMORY: &[u8] = b"refused 4 no memory\n";
+
 /// The words before what changed.
 const RELOADED_WORDS: &[u8] = b"reloaded: ";
 

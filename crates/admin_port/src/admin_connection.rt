@@ -3,8 +3,8 @@
 ghost use Rattle.std.specs.Prelude.{◌≤◌, length};
 
 use admin_client::{
-    AdminCommand, Asked, LONGEST_COMMAND, LONGEST_KEY, RELOADED, STOPPING, UNKNOWN_COMMAND,
-    WRONG_KEY, asked_in, asked_of_watch, behind_key, routed_name,
+    AdminCommand, Asked, LONGEST_COMMAND, LONGEST_KEY, REFUSED_FOR_MEMORY, RELOADED, STOPPING,
+    UNKNOWN_COMMAND, WRONG_KEY, asked_in, asked_of_watch, behind_key, routed_name,
 };
 use mio::net::TcpStream;
 use mio_loops::exchange::{MOST_TRIES, PATIENCE_MS, Transfer, read_away};
@@ -95,7 +95,7 @@ impl Answer {
             Answer::UnknownCommand => UNKNOWN_COMMAND,
             Answer::WrongKey => WRONG_KEY,
             Answer::Reloaded => RELOADED,
-            Answer::NoMemory => b"refused 4 no memory\n".as_slice(),
+            Answer::NoMemory => REFUSED_FOR_MEMORY,
             Answer::Text(text) => text.as_slice(),
         }
     }
