@@ -120,6 +120,7 @@ fn push_bad(text: &mut String, counts: &ReceiverCounts) -> Result<(), AllocError
 }
 
 /// Adds what it lost or closed, by the reason.
+#[tactic(auto, unfolding(crate::specs::Json::losses_json))]
 fn push_losses(text: &mut String, losses: &LossCounts) -> Result<(), AllocError>
     ensures { OnOk result (string_bytes text.new ≡ string_bytes text.old ++ losses_json losses.now) }
 {

@@ -6,6 +6,7 @@ ghost use Rattle.status_page.specs.LossWords.{loss_name};
 use log_lines::LossReason;
 
 /// The name of a reason, in the metrics and in JSON.
+#[tactic(auto, unfolding(crate::specs::LossWords::loss_name))]
 pub(crate) fn loss_name(reason: LossReason) -> &'static str
     ensures { result.now ≡ loss_name reason }
 {

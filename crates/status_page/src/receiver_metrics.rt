@@ -164,7 +164,10 @@ fn push_losses(text: &mut String, receivers: &[ReceiverSnapshot]) -> Result<(), 
     push_all_loss_samples(text, receivers)
 }
 
-fn push_all_loss_samples(text: &mut String, receivers: &[ReceiverSnapshot]) -> Result<(), AllocError>
+fn push_all_loss_samples(
+    text: &mut String,
+    receivers: &[ReceiverSnapshot],
+) -> Result<(), AllocError>
     ensures { OnOk result (string_bytes text.new
         ≡ string_bytes text.old ++ flat_map (loss_samples receivers.now) LOSS_REASONS) }
 {
