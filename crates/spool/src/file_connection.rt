@@ -5,7 +5,7 @@ ghost use Rattle.spool.specs.Held.{Ends, GoesOn, IsUnderWay, StopsAtLine};
 ghost use Rattle.spool.specs.Turn.{IfGivenUp, IfOver};
 
 use crate::held_text::HeldText;
-use crate::pieces::{SendOutcome, send_lines};
+use crate::pieces::{SendOutcome, send_piece};
 use crate::turn::Turn;
 use backlog::{Cursor, laws};
 use std::io::Write;
@@ -136,7 +136,7 @@ impl<W: Write + Drop> FileConnection<W> {
             return Turn::Kept;
         };
         let mut sink = sink;
-        match send_lines(file, end, cursor, &mut sink, piece) {
+        match send_piece(file, end, cursor, &mut sink, piece) {
             SendOutcome::All => Turn::Over(sink),
             SendOutcome::Unreadable { code } => {
                 if is_between_lines(cursor) {

@@ -115,14 +115,7 @@ impl<D: SpoolDisk + Drop> FileSink<'_, D> {
 
 impl<D: SpoolDisk + Drop> Drop for FileSink<'_, D> {
     fn drop(self) {
-        let FileSink {
-            disk,
-            spool,
-            limit: _limit,
-            notes,
-            stage,
-        } = self;
-        drop(ended(disk, spool, notes, stage));
+        drop(self.end());
     }
 }
 

@@ -23,23 +23,6 @@ pub enum SendOutcome {
     Unreadable { code: i32 },
 }
 
-/// Sends a piece of a file, whose whole lines end at `end`, to a connection, where others may have taken lines before.
-pub(crate) fn send_lines<F: HeldText, W: Write>(
-    file: &F,
-    end: u64,
-    cursor: &mut Cursor,
-    sink: &mut W,
-    piece: &mut [u8],
-) -> SendOutcome
-    ensures sent { IfSome (F.text file.now) (λ held.
-        GoesOn (take end held) cursor.old cursor.new (W.contents sink.old) (W.contents sink.new)) }
-    ensures all { result ≡ SendOutcome.All → end ≤ cursor.new.next }
-{
-    laws::nothing_is_lost();
-    laws::left_from_place();
-    send_piece(file, end, cursor, sink, piece)
-}
-
 /// Sends what a file, whose whole lines end at `end`, has for a connection next: reads a piece, and offers it in one write.
 /// The cursor moves past what the connection took.
 pub fn send_piece<F: HeldText, W: Write>(
@@ -53,9 +36,14 @@ pub fn send_piece<F: HeldText, W: Write>(
     ensures sent { IfSome (F.text file.now) (λ held.
         GotPart (left_of held cursor.old.next end) cursor.old cursor.new
         (W.contents sink.old) (W.contents sink.new)) }
+    // Where others may have taken lines before, it goes on with these.
+    ensures goes_on { IfSome (F.text file.now) (λ held.
+        GoesOn (take end held) cursor.old cursor.new (W.contents sink.old) (W.contents sink.new)) }
     ensures all { result ≡ SendOutcome.All → end ≤ cursor.new.next }
     ensures over { end ≤ cursor.old.next → result ≡ SendOutcome.All }
 {
+    laws::nothing_is_lost();
+    laws::left_from_place();
     let next = cursor.next();
     if next >= end {
         return SendOutcome::All;
