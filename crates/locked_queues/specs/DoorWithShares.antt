@@ -1,7 +1,10 @@
 -- A door to locked queues: its record, and its shares of the totals behind the locks.
-use Rattle.std.specs.Prelude.{ℕ, Bool, ◌≡◌, ◌+◌, ◌%◌, ◌<◌, ◌==◌, ◌&&◌, nat_lt, if◌then◌else◌, List, length, slice_index}
+use Rattle.std.specs.Prelude.{ℕ, Bool, ◌≡◌, ◌+◌, ◌%◌, ◌<◌, ◌==◌, ◌&&◌, nat_lt, if◌then◌else◌, List, length, slice_index, Result, IfOk, IfErr, OnOk, OnErr}
+use Rattle.dest_queue.specs.Offer.{last_count}
 use Rattle.dest_queue.specs.declared.offer.Kept.{Kept}
-use Rattle.queue_records.specs.Offers.{OffersMade, dropped_by}
+use Rattle.dest_queue.specs.declared.offer.OfferFault.{OfferFault}
+use Rattle.line_text.specs.Datapoint.{Datapoint}
+use Rattle.queue_records.specs.Offers.{OffersMade, IsReaderOf, MayRefuse, after_offer, dropped_by}
 use Rattle.queue_records.specs.Takes.{TakesMade}
 use Rattle.locked_queues.specs.Shares.{offered_place, dropped_place, taken_place, cap_at_u64}
 
@@ -29,6 +32,20 @@ SharesOfOffer dest kept old new =
     → slice_index new i
     ≡ slice_index old i + (if i == offered_place dest then 1 else 0)
     + (if i == dropped_place dest then dropped_by kept else 0)
+
+-- an offer of a datapoint by a reader, of which there are this many, to a destination is answered
+pub record AnswersOffer (readers reader dest : ℕ) (point : Datapoint) (answer : Result Kept OfferFault)
+    (old new : DoorWithShares) : Type 0 where
+  pub made : IfOk answer (λ kept. new.made ≡ after_offer reader dest point kept old.made)
+  -- the shares of the totals behind the lock rise with the record
+  pub shares : IfOk answer (λ kept. SharesOfOffer dest kept old.shares new.shares)
+  pub refused : OnErr answer (new.made ≡ old.made)
+  pub refused_shares : OnErr answer (new.shares ≡ old.shares)
+  -- the record's totals and drops are the shares
+  pub bears : BearsOffers new.made new.shares
+  -- a reader of another receiver is refused, and so is one more offer than the record can count
+  pub fault : IfErr answer (λ fault. MayRefuse readers old.made reader fault)
+  pub no_fault : OnOk answer (IsReaderOf old.made.receiver reader × (slice_index old.made.totals dest < last_count))
 
 pub record OutletWithShares : Type 0 where
   pub made : TakesMade

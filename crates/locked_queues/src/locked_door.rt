@@ -1,11 +1,10 @@
 //! A receiver's door to locked queues.
-ghost use Rattle.std.specs.Prelude.{◌≡◌, ◌*◌, ◌<◌, ◌≤◌, ◌⊎◌, length, map, slice_index, IfOk, IfErr, IsErrOf, OnOk, OnErr};
+ghost use Rattle.std.specs.Prelude.{◌≡◌, ◌*◌, ◌<◌, length, map, slice_index};
 ghost use Rattle.std.specs.Arc.{arc_value};
 ghost use Rattle.queue_records.specs.DoorRecord.{HasOffersOf};
-ghost use Rattle.dest_queue.specs.Offer.{last_count};
-ghost use Rattle.locked_queues.specs.DoorWithShares.{BearsOffers, SharesOfOffer};
+ghost use Rattle.locked_queues.specs.DoorWithShares.{AnswersOffer};
 ghost use Rattle.queue_records.specs.Made.{offer_of};
-ghost use Rattle.queue_records.specs.Offers.{IsFresh, IsReaderOf, MayRefuse, after_offer, readers_each};
+ghost use Rattle.queue_records.specs.Offers.{IsFresh, readers_each};
 ghost use Rattle.locked_queues.specs.Shares.{offered_place};
 
 use crate::gate::{Gate, GatePoint};
@@ -173,20 +172,7 @@ impl<'d, B: Set, R: Wait, G: Gate> Door for LockedDoor<'d, B, R, G> {
 
     fn offer(&mut self, reader: usize, dest: DestId, point: &Arc<Point>) -> Result<Kept, OfferFault>
         requires dest { dest.0 < length self.old.made.totals }
-        ensures made { IfOk result (λ kept. self.new.made
-            ≡ after_offer reader dest.0 (arc_value point.now) kept self.old.made) }
-        // The shares of the totals behind the lock rise with the record.
-        ensures shares { IfOk result (λ kept.
-            SharesOfOffer dest.0 kept self.old.shares self.new.shares) }
-        ensures refused { OnErr result (self.new.made ≡ self.old.made) }
-        ensures refused_shares { OnErr result (self.new.shares ≡ self.old.shares) }
-        // The record's totals and drops are the shares.
-        ensures bears { BearsOffers self.new.made self.new.shares }
-        // A reader of another receiver is refused, and so is one more offer than the record can count.
-        ensures fault { IfErr result (λ fault.
-            MayRefuse (readers_each * B.receivers) self.old.made reader fault) }
-        ensures no_fault { OnOk result (IsReaderOf self.old.made.receiver reader
-            × (slice_index self.old.made.totals dest.0 < last_count)) }
+        ensures { AnswersOffer (readers_each * B.receivers) reader dest.0 (arc_value point.now) result self.old self.new }
     {
         let mut hold = None;
         self.offer_with(&mut hold, reader, dest, point)
@@ -201,20 +187,7 @@ impl<'d, B: Set, R: Wait, G: Gate> Door for LockedDoor<'d, B, R, G> {
         point: &Arc<Point>,
     ) -> Result<Kept, OfferFault>
         requires dest { dest.0 < length self.old.made.totals }
-        ensures made { IfOk result (λ kept. self.new.made
-            ≡ after_offer reader dest.0 (arc_value point.now) kept self.old.made) }
-        // The shares of the totals behind the lock rise with the record.
-        ensures shares { IfOk result (λ kept.
-            SharesOfOffer dest.0 kept self.old.shares self.new.shares) }
-        ensures refused { OnErr result (self.new.made ≡ self.old.made) }
-        ensures refused_shares { OnErr result (self.new.shares ≡ self.old.shares) }
-        // The record's totals and drops are the shares.
-        ensures bears { BearsOffers self.new.made self.new.shares }
-        // A reader of another receiver is refused, and so is one more offer than the record can count.
-        ensures fault { IfErr result (λ fault.
-            MayRefuse (readers_each * B.receivers) self.old.made reader fault) }
-        ensures no_fault { OnOk result (IsReaderOf self.old.made.receiver reader
-            × (slice_index self.old.made.totals dest.0 < last_count)) }
+        ensures { AnswersOffer (readers_each * B.receivers) reader dest.0 (arc_value point.now) result self.old self.new }
     {
         let mut held = self.lock_of(hold, dest);
         self.gate.at(GatePoint::InOffer { dest, reader });
