@@ -232,6 +232,21 @@ class Runs(Reloads):
         receivers = self.status(relay, port)["receivers"]
         return tuple(sum(it[name] for it in receivers) for name in ("datapoints", "bad_lines"))
 
+    def test_the_log_repeats_nothing(self):
+        """What it has said of a receiver's bad input and losses comes once more, at the end, and not after a reload."""
+        store, = self.stores(1)
+        dests = [f"127.0.0.1:{store.port}"]
+        said = {b"receiver line: 1 bad line\n": 2, b"receiver line: bad line from 127.0.0.1: 2 fields\n": 1,
+                b"receiver line: 1 unfinished line\n": 2}
+        with self.running(dests) as relay:
+            relay.lines(b"a 1\na 1 17")
+            self.wait_for(lambda: set(said) <= set(relay.log.lines), f"the log has {set(said)}: {relay.log.lines}")
+            self.reloads(relay, dests)
+            relay.pickles(b"no pickle")
+            self.wait_for(lambda: b"receiver pickle: 1 bad pickle\n" in relay.log.lines, "the log goes on")
+            self.stops(relay)
+        self.assertEqual({line: relay.log.lines.count(line) for line in said}, said)
+
     def test_records(self):
         """Each run that another one follows has a record of its own, and the last one has the file itself."""
         store, = self.stores(1)

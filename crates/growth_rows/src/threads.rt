@@ -7,7 +7,7 @@ use locked_queues::{Door, ListDoor};
 use mio_loops::{LISTENER, LeftWriter, ReadTotals, ReadinessFault, SystemTimes, Token};
 use reader_core::ReaderKind;
 use receivers::{
-    Accept, AcceptOutcome, Datagrams, ReceiverRecord, ServedInput, receive_datagrams,
+    Accept, AcceptOutcome, Datagrams, Receiver, ReceiverRecord, ServedInput, receive_datagrams,
     receive_streams,
 };
 use relay_base::DestId;
@@ -100,10 +100,14 @@ fn is_stream_received<R: Wait + Clock>(rt: &HostRuntime, waits: &R, alloc: Globa
     let (plan, door) = plan_and_door(alloc)?;
     let times = SystemTimes::new(waits);
     let stop = AtomicBool::new(false);
-    let listener = OneConnection { tries: 0 };
-    let kind = ReaderKind::Line;
+    let receiver = Receiver {
+        source: OneConnection { tries: 0 },
+        number: 0,
+        plan,
+        door,
+    };
     begin(rt);
-    let record = receive_streams(waits, alloc, listener, kind, 0, plan, door, &times, &stop);
+    let record = receive_streams(waits, alloc, ReaderKind::Line, receiver, &times, &stop);
     end(rt);
     let is_received = is_received(rt, &record);
     drop(record);
@@ -156,11 +160,16 @@ fn is_datagram_received<R: Wait + Clock>(
     let (plan, door) = plan_and_door(alloc)?;
     let times = SystemTimes::new(waits);
     let stop = AtomicBool::new(false);
-    let socket = OneDatagram {
-        datagram: FaultyReader::new(DATAGRAM, &TAKES),
+    let receiver = Receiver {
+        source: OneDatagram {
+            datagram: FaultyReader::new(DATAGRAM, &TAKES),
+        },
+        number: 0,
+        plan,
+        door,
     };
     begin(rt);
-    let record = receive_datagrams(waits, alloc, socket, 0, plan, door, &times, &stop);
+    let record = receive_datagrams(waits, alloc, receiver, &times, &stop);
     end(rt);
     let is_received = is_received(rt, &record);
     drop(record);

@@ -1,5 +1,5 @@
 -- The connections that a receiver gives up, one after another.
-use Rattle.std.proofs.Common.{◌≡◌, ◌≢◌, ◌≤◌, ◌+◌, ◌∙◌, ℕ, List, Option, refl, suc, subst, arith}
+use Rattle.std.proofs.Common.{◌≡◌, ◌+◌, ℕ, List, Option, refl, suc, subst, arith}
 use Rattle.slab.specs.Slab.{get}
 use Rattle.dest_writer.specs.declared.counting.Counting.{Counting}
 use Rattle.reader_core.specs.Reader.{ReaderModel}

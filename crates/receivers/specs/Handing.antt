@@ -1,5 +1,5 @@
 -- What a receiver gives up once it was stopped.
-use Rattle.std.specs.Prelude.{ℕ, ◌≡◌, ◌+◌, List, Option, Some, None, zero, suc, slice_get}
+use Rattle.std.specs.Prelude.{ℕ, ◌≡◌, List, Option, Some, None, zero, suc, slice_get}
 use Rattle.slab.specs.Slab.{get}
 use Rattle.dest_writer.specs.Counting.{stream_of}
 use Rattle.dest_writer.specs.declared.counting.Counting.{Counting}

@@ -1,6 +1,7 @@
 -- What a receiver returns: its log, and what its door recorded.
-use Rattle.std.specs.Prelude.{ℕ, ◌≡◌, ◌⊎◌, Bool, true, false, List, [], Option, Some, None}
+use Rattle.std.specs.Prelude.{ℕ, ◌≡◌, ◌<◌, ◌≤◌, ◌⊎◌, Bool, true, false, List, [], Option, Some, None, length}
 use Rattle.std.specs.List.{list_all}
+use Rattle.relay_base.specs.declared.limits.TheConstants.{MOST_RECEIVERS}
 use Rattle.line_text.specs.Datapoint.{Datapoint}
 use Rattle.router.specs.Plan.{Plan}
 use Rattle.reader_core.specs.Configuration.{Dispatch}
@@ -13,6 +14,11 @@ use Rattle.mio_loops.specs.InputLog.{LogState, log_after_all}
 use Rattle.mio_loops.specs.Reading.{ReaderOffer, AreMade, AreMadeOrRefused, GoesOn, offers_of}
 use Rattle.mio_loops.specs.declared.readiness.ReadinessFault.{ReadinessFault}
 use Rattle.mio_loops.specs.declared.readiness.ReadinessFault.TheVariants.{Device, NoMemory}
+
+-- a receiver may begin: its number is one of those that receivers have, and the door, which made these offers, has all
+-- destinations of its plan
+abbrev pub MayBegin : (receiver : ℕ) → Plan → OffersMade → Type 0
+MayBegin receiver plan made = (receiver < MOST_RECEIVERS) × (plan.destinations ≤ length made.totals)
 
 -- a log without entries, sealed if it could not be made
 abbrev pub begun_log : Bool → LogState

@@ -1,26 +1,26 @@
 //! A receiver of datagrams.
-ghost use Rattle.std.specs.Prelude.{◌≡◌, ◌≤◌, ◌<◌, length, IfErr, IfSome};
+ghost use Rattle.std.specs.Prelude.{◌≡◌, IfErr, IfSome};
 ghost use Rattle.queue_records.specs.Offers.{IsRefusedBy};
 ghost use Rattle.receivers.specs.Datagrams.{DatagramsProgress, IsReady};
-ghost use Rattle.receivers.specs.Record.{EndsFor, RanOrRefused};
+ghost use Rattle.receivers.specs.Record.{EndsFor, MayBegin, RanOrRefused};
 ghost use Rattle.reader_core.specs.declared.kind.ReaderKind.TheVariants.{Datagram};
 
 use crate::datagram_loop::{DatagramLoop, DatagramOutcome, MOST_DATAGRAMS};
 use crate::datagrams::Datagrams;
 use crate::noting_times::NotingTimes;
+use crate::receiver::Receiver;
 use crate::record::{ReceiverRecord, without_memory};
 use crate::stream_receiver::MOST_WAIT_MS;
 use mio_loops::{ReadinessFault, StopFlag, TimeSource};
-use queue_records::{Door, MOST_RECEIVERS};
+use queue_records::Door;
 use reader_core::ReaderKind;
 use router::Plan;
 use std::alloc::Global;
 use std::sync::Wait;
 
-/// Receives datagrams, until the stop flag is set or a fault: takes them from the socket, each whole, feeds them
-/// to the first reader of the receiver's number, which is below [`MOST_RECEIVERS`], and makes all offers of each
-/// through the door before the next is taken; offers that were refused are tried again first. The door has all
-/// destinations of the plan.
+/// Receives datagrams, until the stop flag is set or a fault: takes them from the receiver's socket, each whole, feeds them
+/// to the first reader of its number, and makes all offers of each through its door before the next is taken; offers that
+/// were refused are tried again first.
 ///
 /// A datagram for which there is no memory is dropped, and the reader is not fed it. The receiver looks at the stop
 /// flag after each turn. It ends with a fault if the socket or the readiness fails (`Device`), and if there is no
@@ -28,39 +28,37 @@ use std::sync::Wait;
 pub fn receive_datagrams<R: Wait, A: Datagrams + Drop, D: Door + Drop, T: TimeSource, F: StopFlag>(
     rt: &R,
     alloc: Global,
-    socket: A,
-    receiver: usize,
-    plan: Plan,
-    door: D,
+    receiver: Receiver<A, D>,
     times: &T,
     stop: &F,
 ) -> ReceiverRecord<D>
-    requires receiver { receiver < MOST_RECEIVERS }
-    requires dests { plan.destinations ≤ length (D.record_of door).totals }
-    ensures ran { RanOrRefused (IsRefusedBy D.may_refuse) Datagram plan receiver (T.may_give times.now) result.log (D.record_of door)
-        (D.record_of result.door) }
-    ensures fault { EndsFor result.fault result.log (D.record_of door) (D.record_of result.door) }
+    requires { MayBegin receiver.number receiver.plan (D.record_of receiver.door) }
+    ensures ran { RanOrRefused (IsRefusedBy D.may_refuse) Datagram receiver.plan receiver.number (T.may_give times.now) result.log
+        (D.record_of receiver.door) (D.record_of result.door) }
+    ensures fault { EndsFor result.fault result.log (D.record_of receiver.door) (D.record_of result.door) }
 {
-    let mut socket = socket;
-    let Ok(mut datagrams) = DatagramLoop::new(alloc, receiver) else {
+    let Ok(mut datagrams) = DatagramLoop::new(alloc, receiver.number) else {
+        let Receiver {
+            mut source,
+            number: _,
+            plan,
+            door,
+        } = receiver;
         drop(plan);
-        socket.note_fault(ReadinessFault::NoMemory);
+        source.note_fault(ReadinessFault::NoMemory);
         return without_memory(alloc, ReaderKind::Datagram, door);
     };
-    let mut plan = plan;
-    let mut door = door;
+    let mut receiver = receiver;
     // The first datagram must not wait for it: meanwhile others would fill the system's buffer.
-    plan.make_room();
-    let fault = take_turns(
-        rt,
-        &mut socket,
-        &mut datagrams,
-        &mut plan,
-        &mut door,
-        times,
-        stop,
-    );
-    socket.note_totals(datagrams.totals(), plan.emptied());
+    receiver.plan.make_room();
+    let fault = take_turns(rt, &mut receiver, &mut datagrams, times, stop);
+    let Receiver {
+        mut source,
+        number: _,
+        plan,
+        door,
+    } = receiver;
+    source.note_totals(datagrams.totals(), plan.emptied());
     drop(plan);
     let log = datagrams.close();
     ReceiverRecord { door, log, fault }
@@ -69,23 +67,27 @@ pub fn receive_datagrams<R: Wait, A: Datagrams + Drop, D: Door + Drop, T: TimeSo
 /// Makes one turn after another until the stop flag is set, or a fault, which it returns.
 fn take_turns<R: Wait, A: Datagrams, D: Door, T: TimeSource, F: StopFlag>(
     rt: &R,
-    socket: &mut A,
+    receiver: &mut Receiver<A, D>,
     datagrams: &mut DatagramLoop,
-    plan: &mut Plan,
-    door: &mut D,
     times: &T,
     stop: &F,
 ) -> Option<ReadinessFault>
-    requires { IsReady plan.old datagrams.old (D.record_of door.old) }
-    ensures went { DatagramsProgress (IsRefusedBy D.may_refuse) (T.may_give times.now) plan.old plan.new datagrams.old datagrams.new
-        (D.record_of door.old) (D.record_of door.new) }
+    requires { IsReady receiver.old.plan datagrams.old (D.record_of receiver.old.door) }
+    ensures went { DatagramsProgress (IsRefusedBy D.may_refuse) (T.may_give times.now) receiver.old.plan receiver.new.plan datagrams.old
+        datagrams.new (D.record_of receiver.old.door) (D.record_of receiver.new.door) }
     ensures device { IfSome result (λ fault. fault ≡ ReadinessFault.Device) }
 {
     let mut is_more = false;
     let mut noting = NotingTimes::new();
     for _ in rt.forever() {
-        note_totals(socket, datagrams, plan, &mut noting, times.millis());
-        match take_turn(socket, datagrams, plan, door, times, is_more) {
+        note_totals(
+            &mut receiver.source,
+            datagrams,
+            &receiver.plan,
+            &mut noting,
+            times.millis(),
+        );
+        match take_turn(receiver, datagrams, times, is_more) {
             Ok(more) => is_more = more,
             Err(fault) => return Some(fault),
         }
@@ -111,22 +113,20 @@ fn note_totals<A: Datagrams>(
 
 /// One turn: waits for datagrams, unless there may be more, and takes some. Returns whether there may be more.
 fn take_turn<A: Datagrams, D: Door, T: TimeSource>(
-    socket: &mut A,
+    receiver: &mut Receiver<A, D>,
     datagrams: &mut DatagramLoop,
-    plan: &mut Plan,
-    door: &mut D,
     times: &T,
     is_more: bool,
 ) -> Result<bool, ReadinessFault>
-    requires { IsReady plan.old datagrams.old (D.record_of door.old) }
-    ensures went { DatagramsProgress (IsRefusedBy D.may_refuse) (T.may_give times.now) plan.old plan.new datagrams.old datagrams.new
-        (D.record_of door.old) (D.record_of door.new) }
+    requires { IsReady receiver.old.plan datagrams.old (D.record_of receiver.old.door) }
+    ensures went { DatagramsProgress (IsRefusedBy D.may_refuse) (T.may_give times.now) receiver.old.plan receiver.new.plan datagrams.old
+        datagrams.new (D.record_of receiver.old.door) (D.record_of receiver.new.door) }
     ensures device { IfErr result (λ fault. fault ≡ ReadinessFault.Device) }
 {
     if !is_more {
-        socket.wait(MOST_WAIT_MS)?;
+        receiver.source.wait(MOST_WAIT_MS)?;
     }
-    match receive_now(socket, datagrams, plan, door, times) {
+    match receive_now(receiver, datagrams, times) {
         DatagramOutcome::Fed => Ok(true),
         DatagramOutcome::Drained | DatagramOutcome::Refused => Ok(false),
         DatagramOutcome::Failed => Err(ReadinessFault::Device),
@@ -137,19 +137,22 @@ fn take_turn<A: Datagrams, D: Door, T: TimeSource>(
 /// now, and returns how that ended. Each is fed, and all its offers are made, before the next is taken; before the first
 /// the offers that wait are made.
 fn receive_now<A: Datagrams, D: Door, T: TimeSource>(
-    socket: &mut A,
+    receiver: &mut Receiver<A, D>,
     datagrams: &mut DatagramLoop,
-    plan: &mut Plan,
-    door: &mut D,
     times: &T,
 ) -> DatagramOutcome
-    requires { IsReady plan.old datagrams.old (D.record_of door.old) }
-    ensures { DatagramsProgress (IsRefusedBy D.may_refuse) (T.may_give times.now) plan.old plan.new datagrams.old datagrams.new
-        (D.record_of door.old) (D.record_of door.new) }
+    requires { IsReady receiver.old.plan datagrams.old (D.record_of receiver.old.door) }
+    ensures { DatagramsProgress (IsRefusedBy D.may_refuse) (T.may_give times.now) receiver.old.plan receiver.new.plan datagrams.old
+        datagrams.new (D.record_of receiver.old.door) (D.record_of receiver.new.door) }
 {
     let moment = times.moment();
     for _ in 0..MOST_DATAGRAMS {
-        match datagrams.receive_one(socket, plan, door, moment) {
+        match datagrams.receive_one(
+            &mut receiver.source,
+            &mut receiver.plan,
+            &mut receiver.door,
+            moment,
+        ) {
             DatagramOutcome::Fed => {}
             ended => return ended,
         }

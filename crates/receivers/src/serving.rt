@@ -6,6 +6,7 @@ ghost use Rattle.receivers.specs.Turns.{TurnsProgress};
 use crate::accept::Accept;
 use crate::bad_input::has_more;
 use crate::input_counts::InputCounts;
+use crate::receiver::Receiver;
 use line_text::Moment;
 use mio_loops::{MOST_CONNECTIONS, ReadLoop, StopFlag, Token};
 use queue_records::Door;
@@ -16,52 +17,41 @@ use std::io::Read;
 /// and tells the listener which of them sent datapoints or bad input. If the stop flag is set before a connection's turn, the connection is
 /// not served: it is in the again list then.
 pub(crate) fn serve_until<S: Read + Drop, A: Accept, D: Door, F: StopFlag>(
-    listener: &mut A,
+    receiver: &mut Receiver<A, D>,
     reads: &mut ReadLoop<S>,
     marks: [bool; MOST_CONNECTIONS],
-    plan: &mut Plan,
-    door: &mut D,
     moment: Moment,
     stop: &F,
 )
-    requires dests { plan.old.destinations ≤ length (D.record_of door.old).totals }
+    requires dests { receiver.old.plan.destinations ≤ length (D.record_of receiver.old.door).totals }
     ensures went { (may_give : ℕ → Bool) → may_give moment ≡ true
-        → TurnsProgress (IsRefusedBy D.may_refuse) may_give plan.old reads.old reads.new (D.record_of door.old) (D.record_of door.new) }
-    ensures dests { plan.old.destinations ≤ length (D.record_of door.new).totals }
-    ensures plan { plan.new ≡ plan.old }
+        → TurnsProgress (IsRefusedBy D.may_refuse) may_give receiver.old.plan reads.old reads.new (D.record_of receiver.old.door)
+        (D.record_of receiver.new.door) }
+    ensures dests { receiver.old.plan.destinations ≤ length (D.record_of receiver.new.door).totals }
+    ensures plan { receiver.new.plan ≡ receiver.old.plan }
 {
     for token in 0..MOST_CONNECTIONS {
-        serve_or_list(
-            listener,
-            reads,
-            Token(token),
-            marks[token],
-            plan,
-            door,
-            moment,
-            stop,
-        );
+        serve_or_list(receiver, reads, Token(token), marks[token], moment, stop);
     }
 }
 
 /// Serves the connection of a token, which is or is not ready, if it is due; if the stop flag is set, it puts
 /// the token into the again list instead.
 fn serve_or_list<S: Read + Drop, A: Accept, D: Door, F: StopFlag>(
-    listener: &mut A,
+    receiver: &mut Receiver<A, D>,
     reads: &mut ReadLoop<S>,
     token: Token,
     ready: bool,
-    plan: &mut Plan,
-    door: &mut D,
     moment: Moment,
     stop: &F,
 )
     requires within { token.0 < MOST_CONNECTIONS }
-    requires dests { plan.old.destinations ≤ length (D.record_of door.old).totals }
+    requires dests { receiver.old.plan.destinations ≤ length (D.record_of receiver.old.door).totals }
     ensures went { (may_give : ℕ → Bool) → may_give moment ≡ true
-        → TurnsProgress (IsRefusedBy D.may_refuse) may_give plan.old reads.old reads.new (D.record_of door.old) (D.record_of door.new) }
-    ensures dests { plan.old.destinations ≤ length (D.record_of door.new).totals }
-    ensures plan { plan.new ≡ plan.old }
+        → TurnsProgress (IsRefusedBy D.may_refuse) may_give receiver.old.plan reads.old reads.new (D.record_of receiver.old.door)
+        (D.record_of receiver.new.door) }
+    ensures dests { receiver.old.plan.destinations ≤ length (D.record_of receiver.new.door).totals }
+    ensures plan { receiver.new.plan ≡ receiver.old.plan }
 {
     if !reads.is_due(token, ready) {
         return;
@@ -70,15 +60,10 @@ fn serve_or_list<S: Read + Drop, A: Accept, D: Door, F: StopFlag>(
         reads.list_again(token);
         return;
     }
-    let before = counts_at(reads, token, plan);
-    let _served = reads.serve_one(token, plan, door, moment);
-    note_served(
-        listener,
-        reads,
-        token,
-        before,
-        counts_at(reads, token, plan),
-    );
+    let before = counts_at(reads, token, &receiver.plan);
+    let _served = reads.serve_one(token, &mut receiver.plan, &mut receiver.door, moment);
+    let now = counts_at(reads, token, &receiver.plan);
+    note_served(&mut receiver.source, reads, token, before, now);
 }
 
 /// What the reader of a token has counted by now.

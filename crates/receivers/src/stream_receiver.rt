@@ -1,19 +1,20 @@
 //! A receiver of connections.
 
-ghost use Rattle.std.specs.Prelude.{◌≡◌, ◌≤◌, ◌<◌, length, IfErr, IfSome};
+ghost use Rattle.std.specs.Prelude.{◌≡◌, ◌≤◌, length, IfErr, IfSome};
 ghost use Rattle.queue_records.specs.Offers.{IsRefusedBy};
-ghost use Rattle.receivers.specs.Record.{EndsFor, RanOrRefused};
+ghost use Rattle.receivers.specs.Record.{EndsFor, MayBegin, RanOrRefused};
 ghost use Rattle.receivers.specs.Turns.{TurnsProgress};
 
 use crate::accept::{Accept, AcceptOutcome};
 use crate::handing::end_loop;
 use crate::noting_times::NotingTimes;
+use crate::receiver::Receiver;
 use crate::record::{ReceiverRecord, without_memory};
 use crate::serving::serve_until;
 use mio_loops::{
     LISTENER, MOST_CONNECTIONS, ReadLoop, ReadinessFault, StopFlag, TimeSource, Token, marks_of,
 };
-use queue_records::{Door, MOST_RECEIVERS};
+use queue_records::Door;
 use reader_core::ReaderKind;
 use router::Plan;
 use std::alloc::Global;
@@ -23,10 +24,9 @@ use std::sync::Wait;
 /// How many milliseconds a turn waits at most for what is ready.
 pub(crate) const MOST_WAIT_MS: u64 = 100;
 
-/// Receives connections, until the stop flag is set or a fault: takes them from the listener, feeds what they
-/// give to readers of a kind, `Line` or `Pickle`, and makes all their offers through the door. The readers are
-/// those of the receiver's number, which is below [`MOST_RECEIVERS`], and the door has all destinations of the
-/// plan.
+/// Receives connections, until the stop flag is set or a fault: takes them from the receiver's listener, feeds what they
+/// give to readers of a kind, `Line` or `Pickle`, and makes all their offers through its door. The readers are those of
+/// its number.
 ///
 /// Once it was stopped, each connection that it holds goes to the listener, with the bytes of its unfinished line or frame
 /// ([`Accept::hand_over`]).
@@ -37,42 +37,40 @@ pub(crate) const MOST_WAIT_MS: u64 = 100;
 pub fn receive_streams<R: Wait, A: Accept + Drop, D: Door + Drop, T: TimeSource, F: StopFlag>(
     rt: &R,
     alloc: Global,
-    listener: A,
     kind: ReaderKind,
-    receiver: usize,
-    plan: Plan,
-    door: D,
+    receiver: Receiver<A, D>,
     times: &T,
     stop: &F,
 ) -> ReceiverRecord<D>
-    requires receiver { receiver < MOST_RECEIVERS }
-    requires dests { plan.destinations ≤ length (D.record_of door).totals }
-    ensures ran { RanOrRefused (IsRefusedBy D.may_refuse) kind plan receiver (T.may_give times.now) result.log (D.record_of door)
-        (D.record_of result.door) }
-    ensures fault { EndsFor result.fault result.log (D.record_of door) (D.record_of result.door) }
+    requires { MayBegin receiver.number receiver.plan (D.record_of receiver.door) }
+    ensures ran { RanOrRefused (IsRefusedBy D.may_refuse) kind receiver.plan receiver.number (T.may_give times.now) result.log
+        (D.record_of receiver.door) (D.record_of result.door) }
+    ensures fault { EndsFor result.fault result.log (D.record_of receiver.door) (D.record_of result.door) }
 {
-    let mut listener = listener;
-    let Ok(mut reads) = ReadLoop::new(alloc, kind, receiver) else {
+    let Ok(mut reads) = ReadLoop::new(alloc, kind, receiver.number) else {
+        let Receiver {
+            mut source,
+            number: _,
+            plan,
+            door,
+        } = receiver;
         drop(plan);
-        listener.note_fault(ReadinessFault::NoMemory);
+        source.note_fault(ReadinessFault::NoMemory);
         return without_memory(alloc, kind, door);
     };
-    let mut plan = plan;
-    let mut door = door;
-    let fault = take_turns(
-        rt,
-        &mut listener,
-        &mut reads,
-        &mut plan,
-        &mut door,
-        times,
-        stop,
-    );
-    listener.note_totals(reads.totals(), plan.emptied());
+    let mut receiver = receiver;
+    let fault = take_turns(rt, &mut receiver, &mut reads, times, stop);
+    let Receiver {
+        mut source,
+        number: _,
+        plan,
+        door,
+    } = receiver;
+    source.note_totals(reads.totals(), plan.emptied());
     drop(plan);
     ReceiverRecord {
         door,
-        log: end_loop(fault.is_none(), &mut listener, reads),
+        log: end_loop(fault.is_none(), &mut source, reads),
         fault,
     }
 }
@@ -80,23 +78,27 @@ pub fn receive_streams<R: Wait, A: Accept + Drop, D: Door + Drop, T: TimeSource,
 /// Makes one turn after another until the stop flag is set, or a fault, which it returns.
 fn take_turns<R: Wait, A: Accept, D: Door, T: TimeSource, F: StopFlag>(
     rt: &R,
-    listener: &mut A,
+    receiver: &mut Receiver<A, D>,
     reads: &mut ReadLoop<A::Stream>,
-    plan: &mut Plan,
-    door: &mut D,
     times: &T,
     stop: &F,
 ) -> Option<ReadinessFault>
-    requires dests { plan.old.destinations ≤ length (D.record_of door.old).totals }
-    ensures went { TurnsProgress (IsRefusedBy D.may_refuse) (T.may_give times.now) plan.old reads.old reads.new
-        (D.record_of door.old) (D.record_of door.new) }
+    requires dests { receiver.old.plan.destinations ≤ length (D.record_of receiver.old.door).totals }
+    ensures went { TurnsProgress (IsRefusedBy D.may_refuse) (T.may_give times.now) receiver.old.plan reads.old reads.new
+        (D.record_of receiver.old.door) (D.record_of receiver.new.door) }
     ensures device { IfSome result (λ fault. fault ≡ ReadinessFault.Device) }
 {
     let mut backlog = Backlog::Empty;
     let mut noting = NotingTimes::new();
     for _ in rt.forever() {
-        begin_turn(listener, reads, plan, &mut noting, times.millis());
-        match take_turn(listener, reads, plan, door, times, stop, backlog) {
+        begin_turn(
+            &mut receiver.source,
+            reads,
+            &receiver.plan,
+            &mut noting,
+            times.millis(),
+        );
+        match take_turn(receiver, reads, times, stop, backlog) {
             Ok(left) => backlog = left,
             Err(fault) => return Some(fault),
         }
@@ -124,49 +126,45 @@ fn begin_turn<A: Accept>(
 /// One turn: waits for what is ready, serves the connections that are ready or are in the again list, and
 /// takes those that wait to be taken. Returns what of these may be left. Once the stop flag is set it serves no more.
 fn take_turn<A: Accept, D: Door, T: TimeSource, F: StopFlag>(
-    listener: &mut A,
+    receiver: &mut Receiver<A, D>,
     reads: &mut ReadLoop<A::Stream>,
-    plan: &mut Plan,
-    door: &mut D,
     times: &T,
     stop: &F,
     backlog: Backlog,
 ) -> Result<Backlog, ReadinessFault>
-    requires dests { plan.old.destinations ≤ length (D.record_of door.old).totals }
-    ensures went { TurnsProgress (IsRefusedBy D.may_refuse) (T.may_give times.now) plan.old reads.old reads.new
-        (D.record_of door.old) (D.record_of door.new) }
-    ensures dests { plan.old.destinations ≤ length (D.record_of door.new).totals }
-    ensures plan { plan.new ≡ plan.old }
+    requires dests { receiver.old.plan.destinations ≤ length (D.record_of receiver.old.door).totals }
+    ensures went { TurnsProgress (IsRefusedBy D.may_refuse) (T.may_give times.now) receiver.old.plan reads.old reads.new
+        (D.record_of receiver.old.door) (D.record_of receiver.new.door) }
+    ensures dests { receiver.old.plan.destinations ≤ length (D.record_of receiver.new.door).totals }
+    ensures plan { receiver.new.plan ≡ receiver.old.plan }
     ensures device { IfErr result (λ fault. fault ≡ ReadinessFault.Device) }
 {
-    let ready = listener.wait(wait_for(backlog, reads.has_again()))?;
+    let ready = receiver.source.wait(wait_for(backlog, reads.has_again()))?;
     let is_reported = has_listener(ready);
     let marks = marks_of(ready);
-    serve_ready(listener, reads, marks, plan, door, times, stop);
+    serve_ready(receiver, reads, marks, times, stop);
     if !is_reported && matches!(backlog, Backlog::Empty) {
         return Ok(Backlog::Empty);
     }
-    take_connections(listener, reads)
+    take_connections(&mut receiver.source, reads)
 }
 
 /// Serves the connections that are marked as ready or are in the again list, all at the moment that the clock returns now, until
 /// the stop flag is set.
 fn serve_ready<S: Read + Drop, A: Accept, D: Door, T: TimeSource, F: StopFlag>(
-    listener: &mut A,
+    receiver: &mut Receiver<A, D>,
     reads: &mut ReadLoop<S>,
     marks: [bool; MOST_CONNECTIONS],
-    plan: &mut Plan,
-    door: &mut D,
     times: &T,
     stop: &F,
 )
-    requires dests { plan.old.destinations ≤ length (D.record_of door.old).totals }
-    ensures went { TurnsProgress (IsRefusedBy D.may_refuse) (T.may_give times.now) plan.old reads.old reads.new
-        (D.record_of door.old) (D.record_of door.new) }
-    ensures dests { plan.old.destinations ≤ length (D.record_of door.new).totals }
-    ensures plan { plan.new ≡ plan.old }
+    requires dests { receiver.old.plan.destinations ≤ length (D.record_of receiver.old.door).totals }
+    ensures went { TurnsProgress (IsRefusedBy D.may_refuse) (T.may_give times.now) receiver.old.plan reads.old reads.new
+        (D.record_of receiver.old.door) (D.record_of receiver.new.door) }
+    ensures dests { receiver.old.plan.destinations ≤ length (D.record_of receiver.new.door).totals }
+    ensures plan { receiver.new.plan ≡ receiver.old.plan }
 {
-    serve_until(listener, reads, marks, plan, door, times.moment(), stop);
+    serve_until(receiver, reads, marks, times.moment(), stop);
 }
 
 /// How many milliseconds a turn waits, by what may be left.

@@ -13,8 +13,8 @@ use mio_loops::{ReadTotals, ReadinessFault, StopFlag, SystemTimes, TimeSource};
 use queue_records::Door;
 use reader_core::ReaderCounts;
 use receivers::{
-    DatagramSocket, Datagrams, ReceiverRecord, ServedInput, StreamListener, receive_datagrams,
-    receive_streams,
+    DatagramSocket, Datagrams, Receiver, ReceiverRecord, ServedInput, StreamListener,
+    receive_datagrams, receive_streams,
 };
 use router::Plan;
 use run_state::{BeginNote, Signals};
@@ -140,8 +140,13 @@ fn receive_connections<
         notes,
     } = inflow;
     let kind = notes.name.kind();
-    let listener = PortListener::new(source, notes);
-    receive_streams(rt, alloc, listener, kind, number, plan, door, times, stop)
+    let receiver = Receiver {
+        source: PortListener::new(source, notes),
+        number,
+        plan,
+        door,
+    };
+    receive_streams(rt, alloc, kind, receiver, times, stop)
 }
 
 /// Receives datagrams.
@@ -162,8 +167,13 @@ fn receive_noted<'s, R: Wait, N: NotesOffers + Drop, D: Door + Drop, T: TimeSour
         number,
         notes,
     } = inflow;
-    let socket = PortDatagrams::new(source, notes);
-    receive_datagrams(rt, alloc, socket, number, plan, door, times, stop)
+    let receiver = Receiver {
+        source: PortDatagrams::new(source, notes),
+        number,
+        plan,
+        door,
+    };
+    receive_datagrams(rt, alloc, receiver, times, stop)
 }
 
 /// What a receiver leaves, with the door that is behind the one whose offers were noted.

@@ -1,4 +1,6 @@
 //! A receiver that the log reports.
+ghost use Rattle.std.specs.Prelude.{◌≡◌};
+ghost use Rattle.relay_watchers.specs.ReceiverLog.{resumed_from};
 
 use log_lines::{
     InputUnit, LoggedCounts, LoggedExample, LoggedLosses, LoggedReceiver, LoggedRefusals,
@@ -43,7 +45,9 @@ impl ReceiverLog {
     }
 
     /// What an earlier log has reported of it is not reported again.
-    pub fn resume(&mut self, earlier: ReceiverLog) {
+    pub fn resume(&mut self, earlier: ReceiverLog)
+        ensures { self.new ≡ resumed_from earlier self.old }
+    {
         let ReceiverLog {
             name: _,
             unit: _,

@@ -5,7 +5,9 @@ use crate::tests::sendings::Sending;
 use crate::tests::supplies::two_lines;
 use mio_loops::{LISTENER, LeftWriter, LogInput, ReadTotals, ReadinessFault, SystemTimes, Token};
 use queue_records::{Door, Made};
-use receivers::{Accept, AcceptOutcome, Datagrams, ReceiverRecord, ServedInput, receive_datagrams};
+use receivers::{
+    Accept, AcceptOutcome, Datagrams, Receiver, ReceiverRecord, ServedInput, receive_datagrams,
+};
 use relay_base::DestId;
 use senders::{BatchSender, Connect, HandOver, KeptSocket, Stores, send_batches};
 use std::alloc::Global;
@@ -153,10 +155,15 @@ fn received_by_socket<R: Wait + Clock>(
     }
     let Sending { plan, door } = sending;
     let (times, stop) = (SystemTimes::new(rt), AtomicBool::new(false));
-    let socket = FailingSocket {
-        datagrams: FaultyReader::new(BYTES, &TAKES),
+    let receiver = Receiver {
+        source: FailingSocket {
+            datagrams: FaultyReader::new(BYTES, &TAKES),
+        },
+        number: RECEIVER,
+        plan,
+        door,
     };
-    Some(receive_datagrams(rt, alloc, socket, RECEIVER, plan, door, &times, &stop))
+    Some(receive_datagrams(rt, alloc, receiver, &times, &stop))
 }
 
 fn is_socket_reported<R: Wait + Clock>(rt: &R, alloc: Global) -> Option<bool> {

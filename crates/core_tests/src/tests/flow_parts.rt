@@ -12,7 +12,7 @@ use locked_queues::{
 use mio::net::TcpListener as PollListener;
 use mio_loops::{Readiness, SystemTimes};
 use reader_core::ReaderKind;
-use receivers::{ReceiverRecord, StreamListener, StreamPort, receive_streams};
+use receivers::{Receiver, ReceiverRecord, StreamListener, StreamPort, receive_streams};
 use relay_base::DestId;
 use senders::{
     Alarm, BatchSender, HostThreads, Resolve, SenderRecord, SenderShare, StoreConnector,
@@ -120,8 +120,14 @@ fn receive<B: Set, R: Wait + Clock>(
     }
     let (times, kind, stop) = (SystemTimes::new(rt), ReaderKind::Line, common.stop);
     let Producer { listener, stream } = producer;
+    let receiver = Receiver {
+        source: listener,
+        number: receiver,
+        plan,
+        door,
+    };
     let ReceiverRecord { door, log, fault } = receive_streams(
-        rt, alloc, listener, kind, receiver, plan, door, &times, stop,
+        rt, alloc, kind, receiver, &times, stop,
     );
     drop((log, stream));
     let record = door.close();

@@ -4,7 +4,7 @@ use crate::tests::sendings::Sending;
 use mio_loops::SystemTimes;
 use queue_records::MOST_RECEIVERS;
 use reader_core::ReaderKind;
-use receivers::{Accept, ReceiverRecord, receive_streams};
+use receivers::{Accept, Receiver, ReceiverRecord, receive_streams};
 use std::alloc::Global;
 use std::rt::Clock;
 use std::sync::Wait;
@@ -26,7 +26,11 @@ pub(crate) fn received_by<R: Wait + Clock, A: Accept + Drop>(
     }
     let Sending { plan, door } = sending;
     let (times, kind) = (SystemTimes::new(rt), ReaderKind::Line);
-    Some(receive_streams(
-        rt, alloc, listener, kind, receiver, plan, door, &times, stop,
-    ))
+    let receiver = Receiver {
+        source: listener,
+        number: receiver,
+        plan,
+        door,
+    };
+    Some(receive_streams(rt, alloc, kind, receiver, &times, stop))
 }

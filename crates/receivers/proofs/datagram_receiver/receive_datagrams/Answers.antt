@@ -10,7 +10,7 @@ use Rattle.receivers.proofs.datagram_receiver.receive_datagrams.Goals as goal
 pub take_turns-fault-requires : goal.take_turns-fault-requires
 take_turns-fault-requires g c =
     rw c.make_room.ensures
-    (ready-first c.args.plan c.in-Ok.datagrams (g.D.Door.record_of c.args.door) (c.in-Ok.ensures.fresh c.args.plan) c.requires.dests)
+    (ready-first c.args.receiver.plan c.in-Ok.datagrams (g.D.Door.record_of c.args.receiver.door) (c.in-Ok.ensures.fresh c.args.receiver.plan) c.requires.1)
 
 pub returns-clause-ran : goal.returns-clause-ran
 returns-clause-ran g c =
@@ -20,11 +20,11 @@ returns-clause-ran g c =
     let loop = c.in-Ok.datagrams in
     let new = c.take_turns-fault.new.datagrams in
     let may_give = g.T.TimeSource.may_give c.args.times.now in
-    let before = g.D.Door.record_of c.args.door in
-    let after = g.D.Door.record_of c.take_turns-fault.new.door in
-    subst (λ (l : LogState). RanOrRefused (IsRefusedBy g.D.Door.may_refuse) Datagram c.args.plan c.args.receiver may_give l before after) (sym c.close-log.ensures)
-    (one-ran (IsRefusedBy g.D.Door.may_refuse) Datagram c.args.plan loop.reader c.args.receiver _ may_give went.0 went.1 new.reader before after loop.log new.log
-    (begun.fresh c.args.plan) begun.log (subst (IsReaderOf c.args.receiver) (sym begun.number) (first-of c.args.receiver)) went.2 went.3 all.waits)
+    let before = g.D.Door.record_of c.args.receiver.door in
+    let after = g.D.Door.record_of c.take_turns-fault.new.receiver.door in
+    subst (λ (l : LogState). RanOrRefused (IsRefusedBy g.D.Door.may_refuse) Datagram c.args.receiver.plan c.args.receiver.number may_give l before after) (sym c.close-log.ensures)
+    (one-ran (IsRefusedBy g.D.Door.may_refuse) Datagram c.args.receiver.plan loop.reader c.args.receiver.number _ may_give went.0 went.1 new.reader before after loop.log new.log
+    (begun.fresh c.args.receiver.plan) begun.log (subst (IsReaderOf c.args.receiver.number) (sym begun.number) (first-of c.args.receiver.number)) went.2 went.3 all.waits)
 
 pub returns-clause-fault : goal.returns-clause-fault
 returns-clause-fault g c = device-alone c.take_turns-fault.result _ _ _ c.take_turns-fault.ensures.device

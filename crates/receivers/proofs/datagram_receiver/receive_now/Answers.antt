@@ -4,7 +4,7 @@ use Rattle.receivers.proofs.DatagramLemmas.{datagrams-none, datagrams-then, data
 use Rattle.receivers.proofs.datagram_receiver.receive_now.Goals as goal
 
 pub loop-init : goal.loop-init
-loop-init g c = datagrams-none (IsRefusedBy g.D.Door.may_refuse) (is_at c.moment-moment.result) c.args.plan.now c.args.datagrams.now (g.D.Door.record_of c.args.door.now) c.requires
+loop-init g c = datagrams-none (IsRefusedBy g.D.Door.may_refuse) (is_at c.moment-moment.result) c.args.receiver.now.plan c.args.datagrams.now (g.D.Door.record_of c.args.receiver.now.door) c.requires
 
 pub loop-preserved : goal.loop-preserved
 loop-preserved g c = datagrams-then (IsRefusedBy g.D.Door.may_refuse) (is_at c.moment-moment.result) _ _ _ _ _ _ _ _ _ c.loop.invariant c.receive_one.ensures

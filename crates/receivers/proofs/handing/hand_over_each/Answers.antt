@@ -1,4 +1,4 @@
-use Rattle.std.proofs.Common.{◌≡◌, ◌≢◌, ◌≤◌, ◌+◌, ◌∙◌, ℕ, refl, arith}
+use Rattle.std.proofs.Common.{◌≢◌, ◌≤◌, ◌+◌, ◌∙◌, refl, arith}
 use Rattle.receivers.proofs.HandingLemmas.{none-handed, one-more_handed}
 use Rattle.receivers.proofs.handing.hand_over_each.Goals as goal
 

@@ -10,10 +10,10 @@ returns-clause-ran g c =
     let made = c.in-Ok.ensures in
     let went = c.take_turns-fault.ensures.went in
     let may_give = g.T.TimeSource.may_give c.args.times.now in
-    let before = g.D.Door.record_of c.args.door in
-    let after = g.D.Door.record_of c.take_turns-fault.new.door in
-    subst (λ (l : LogState). RanOrRefused (IsRefusedBy g.D.Door.may_refuse) c.args.kind c.args.plan c.args.receiver may_give l before after) (sym c.end_loop.ensures)
-    (loop-ran (IsRefusedBy g.D.Door.may_refuse) c.args.kind c.args.plan c.args.receiver may_give went.0 went.1 c.in-Ok.reads c.take_turns-fault.new.reads before after
+    let before = g.D.Door.record_of c.args.receiver.door in
+    let after = g.D.Door.record_of c.take_turns-fault.new.receiver.door in
+    subst (λ (l : LogState). RanOrRefused (IsRefusedBy g.D.Door.may_refuse) c.args.kind c.args.receiver.plan c.args.receiver.number may_give l before after) (sym c.end_loop.ensures)
+    (loop-ran (IsRefusedBy g.D.Door.may_refuse) c.args.kind c.args.receiver.plan c.args.receiver.number may_give went.0 went.1 c.in-Ok.reads c.take_turns-fault.new.reads before after
     made.first made.readers.0 made.readers.1 made.log went.2 went.3 went.4)
 
 pub returns-clause-fault : goal.returns-clause-fault

@@ -6,7 +6,7 @@ use Rattle.receivers.proofs.stream_receiver.take_turns.Goals as goal
 
 pub loop-init : goal.loop-init
 loop-init g c = record {
-  went = no-turns (IsRefusedBy g.D.Door.may_refuse) (g.T.TimeSource.may_give c.args.times.now) c.args.plan.now c.args.reads.now (g.D.Door.record_of c.args.door.now);
+  went = no-turns (IsRefusedBy g.D.Door.may_refuse) (g.T.TimeSource.may_give c.args.times.now) c.args.receiver.now.plan c.args.reads.now (g.D.Door.record_of c.args.receiver.now.door);
   dests = c.requires.dests;
   plan = refl;
 }
@@ -15,13 +15,13 @@ pub returns-in-Err-clause-went : goal.returns-in-Err-clause-went
 returns-in-Err-clause-went g c =
     let held = c.loop.invariant in
     let more = c.take_turn.ensures.went in
-    more-turns (IsRefusedBy g.D.Door.may_refuse) (g.T.TimeSource.may_give c.args.times.now) c.args.plan.now c.loop.plan c.args.reads.now c.loop.reads c.take_turn.new.reads _ _ _ held.plan held.went more
+    more-turns (IsRefusedBy g.D.Door.may_refuse) (g.T.TimeSource.may_give c.args.times.now) c.args.receiver.now.plan c.loop.receiver.plan c.args.reads.now c.loop.reads c.take_turn.new.reads _ _ _ held.plan held.went more
 
 pub returns-then-is_set-clause-went : goal.returns-then-is_set-clause-went
 returns-then-is_set-clause-went g c =
     let held = c.loop.invariant in
     let more = c.take_turn.ensures.went in
-    more-turns (IsRefusedBy g.D.Door.may_refuse) (g.T.TimeSource.may_give c.args.times.now) c.args.plan.now c.loop.plan c.args.reads.now c.loop.reads c.take_turn.new.reads _ _ _ held.plan held.went more
+    more-turns (IsRefusedBy g.D.Door.may_refuse) (g.T.TimeSource.may_give c.args.times.now) c.args.receiver.now.plan c.loop.receiver.plan c.args.reads.now c.loop.reads c.take_turn.new.reads _ _ _ held.plan held.went more
 
 pub loop-preserved : goal.loop-preserved
 loop-preserved g c =
@@ -29,7 +29,7 @@ loop-preserved g c =
     let step = c.take_turn.ensures in
     let more = step.went in
     record {
-      went = more-turns (IsRefusedBy g.D.Door.may_refuse) (g.T.TimeSource.may_give c.args.times.now) c.args.plan.now c.loop.plan c.args.reads.now c.loop.reads c.take_turn.new.reads _ _ _ held.plan held.went more;
-      dests = subst (λ (p : Plan). p.destinations ≤ length (g.D.Door.record_of c.take_turn.new.door).totals) held.plan step.dests;
+      went = more-turns (IsRefusedBy g.D.Door.may_refuse) (g.T.TimeSource.may_give c.args.times.now) c.args.receiver.now.plan c.loop.receiver.plan c.args.reads.now c.loop.reads c.take_turn.new.reads _ _ _ held.plan held.went more;
+      dests = subst (λ (p : Plan). p.destinations ≤ length (g.D.Door.record_of c.take_turn.new.receiver.door).totals) held.plan step.dests;
       plan = step.plan ∙ held.plan;
     }
