@@ -1,7 +1,7 @@
 //! Connects to the stores that destinations name, by the system's sockets.
 
 use crate::alarm::Alarm;
-use crate::connect::{Connect, KeptSocket, Stores};
+use crate::connect::{Connect, HandOver, KeptSocket, Stores};
 use crate::host_lookup::{HostLookup, HostThreads};
 use crate::link::{Link, LinkTry};
 use crate::lookup::Lookup;
@@ -11,7 +11,7 @@ use crate::store_stream::StoreStream;
 use crate::wire::Wire;
 use log_lines::{DestNotes, Why};
 use mio::net::TcpStream;
-use mio_loops::{Readiness, ReadinessFault, Token};
+use mio_loops::{LeftWriter, Readiness, ReadinessFault, Token};
 use relay_base::{DestId, NoMemory};
 use std::alloc::Global;
 use std::net::Net;
@@ -292,6 +292,14 @@ impl<'g, R: Net + Drop, L: Lookup + Drop> Connect for StoreConnector<'g, R, L> {
     }
 
     fn end(&mut self) {}
+}
+
+impl<'g, R: Net + Drop, L: Lookup + Drop> HandOver for StoreConnector<'g, R, L> {
+    fn hands_over(&self) -> bool {
+        false
+    }
+
+    fn hand_over(&mut self, _dest: DestId, _left: LeftWriter<StoreStream<'g>>) {}
 }
 
 impl<'g, R: Net + Drop, L: Lookup + Drop> Stores for StoreConnector<'g, R, L> {
