@@ -1,4 +1,5 @@
 pub mod DestSources
 pub mod DiskUsers
 pub mod Drain
+pub mod RunNotes
 pub mod Unsent

@@ -1,6 +1,7 @@
 //! What is noted over all runs of a process.
 
-ghost use Rattle.std.specs.Prelude.{◌≡◌, []};
+ghost use Rattle.std.specs.Prelude.{◌≡◌, ◌+◌, ◌++◌, [], ◌∷◌, length, replicate, IfOk, OnOk};
+ghost use Rattle.run_state.specs.RunNotes.{nothing_counted};
 
 use crate::rest_notes::RestNotes;
 use dest_queue::EarlierCounts;
@@ -40,7 +41,12 @@ impl RunNotes {
     }
 
     /// Nothing has happened to so many receivers and destinations. Refuses if out of memory.
-    pub fn new(alloc: Global, receivers: usize, dests: usize) -> Result<RunNotes, NoMemory> {
+    pub fn new(alloc: Global, receivers: usize, dests: usize) -> Result<RunNotes, NoMemory>
+        ensures receivers { IfOk result (λ notes. length notes.receivers.items ≡ receivers) }
+        ensures dests { IfOk result (λ notes. length notes.dests.items ≡ dests) }
+        ensures earlier { IfOk result (λ notes. notes.earlier.items ≡ replicate dests nothing_counted) }
+        ensures rests { IfOk result (λ notes. length notes.rests.items ≡ dests) }
+    {
         let mut notes = RunNotes {
             receivers: receivers_of(alloc, receivers)?,
             dests: Vec::new(alloc),
@@ -57,7 +63,13 @@ impl RunNotes {
     }
 
     /// Adds a destination to which nothing has happened.
-    fn add_dest(&mut self) -> Result<(), NoMemory> {
+    fn add_dest(&mut self) -> Result<(), NoMemory>
+        ensures receivers { self.new.receivers ≡ self.old.receivers }
+        ensures dests { OnOk result (length self.new.dests.items ≡ length self.old.dests.items + 1) }
+        ensures earlier { OnOk result
+            (self.new.earlier.items ≡ self.old.earlier.items ++ nothing_counted ∷ []) }
+        ensures rests { OnOk result (length self.new.rests.items ≡ length self.old.rests.items + 1) }
+    {
         add(&mut self.dests, DestNotes::new())?;
         add(&mut self.earlier, EarlierCounts::none())?;
         add(&mut self.rests, RestNotes::new(0))
@@ -65,7 +77,9 @@ impl RunNotes {
 }
 
 /// Where this many receivers note their events: no event yet.
-fn receivers_of(alloc: Global, receivers: usize) -> Result<Vec<Arc<ReceiverNotes>>, NoMemory> {
+fn receivers_of(alloc: Global, receivers: usize) -> Result<Vec<Arc<ReceiverNotes>>, NoMemory>
+    ensures { IfOk result (λ notes. length notes.items ≡ receivers) }
+{
     let mut notes = Vec::new(alloc);
     for _ in 0..receivers {
         add(&mut notes, Arc::new(alloc, ReceiverNotes::new())?)?;
