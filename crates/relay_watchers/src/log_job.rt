@@ -1,6 +1,6 @@
 //! The work of the log's thread.
 
-ghost use Rattle.std.specs.Prelude.{◌≡◌, ◌<◌, length};
+ghost use Rattle.std.specs.Prelude.{◌≡◌, ◌↔◌, ◌<◌, length, IfOk, IsSome};
 
 use crate::dest_rest::{DestRest, RestOfAll};
 use crate::late_news::LateNews;
@@ -413,6 +413,7 @@ pub(crate) fn log_to<'x, B: Set, L: Write + Drop>(
     log: Option<L>,
 ) -> Result<Option<LogJob<'x, B, L>>, NoMemory>
     requires all { length watched.now.noted.dests.now ≡ B.dests }
+    ensures { IfOk result (λ job. IsSome job ↔ IsSome log) }
 {
     let Some(output) = log else {
         return Ok(None);

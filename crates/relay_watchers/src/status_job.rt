@@ -1,6 +1,6 @@
 //! The work of the status server's thread.
 
-ghost use Rattle.std.specs.Prelude.{◌≡◌, ◌<◌, length};
+ghost use Rattle.std.specs.Prelude.{◌≡◌, ◌↔◌, ◌<◌, length, IsSome};
 
 use crate::dest_track::{DestTrack, FileLook};
 use crate::process::SystemFacts;
@@ -438,7 +438,9 @@ pub(crate) fn status_at<'x, B: Set>(
     server: Option<StatusServer>,
     watch: StatusWatch<'x, B>,
     began: Option<Instant>,
-) -> Option<StatusJob<'x, B>> {
+) -> Option<StatusJob<'x, B>>
+    ensures { IsSome result ↔ IsSome server }
+{
     match server {
         Some(server) => Some(StatusJob {
             server,

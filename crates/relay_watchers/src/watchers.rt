@@ -1,6 +1,6 @@
 //! What the threads that watch a run do.
 
-ghost use Rattle.std.specs.Prelude.{◌≡◌, length};
+ghost use Rattle.std.specs.Prelude.{◌≡◌, ◌↔◌, length, IfOk, IsSome};
 
 use crate::late_news::LateNews;
 use crate::log_job::{LogJob, log_to};
@@ -51,6 +51,8 @@ pub fn watchers_of<'x, B: Set, L: Write + Drop>(
     server: Option<StatusServer>,
 ) -> Result<(Option<LogJob<'x, B, L>>, Option<StatusJob<'x, B>>), NoMemory>
     requires all { length watched.now.noted.dests.now ≡ B.dests }
+    ensures log { IfOk result (λ jobs. IsSome jobs.0 ↔ IsSome log) }
+    ensures server { IfOk result (λ jobs. IsSome jobs.1 ↔ IsSome server) }
 {
     let shown = watched_of(alloc, receivers.as_slice())?;
     if server.is_some() {
