@@ -9,7 +9,7 @@ HEAD = re.compile(r"\bfn (\w+)")
 OPEN, CLOSE = "(<[{", ")>]}"
 MOST = 9  # parameters of a function, `self`, the runtime and the allocator among them
 GOOD = 6
-MANY = 10  # functions that take more; this number only falls
+MANY = 9  # functions that take more; this number only falls
 
 
 def parts_of(text, start):

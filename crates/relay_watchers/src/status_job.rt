@@ -396,7 +396,7 @@ fn serve_until_stopped<B: Set, R: Wait + Clock + RandomSource + SystemFacts>(
             signals,
             times,
         };
-        listener.take_turn(rt, alloc, keys, &view, millis, MOST_WAIT_MS);
+        listener.take_turn(rt, keys, &view, millis, MOST_WAIT_MS);
     }
     unreachable!()
 }

@@ -24,6 +24,7 @@ const PAUSE_MS: u64 = 100;
 /// The listener of the status server, with its connections.
 #[derive(Drop)]
 pub struct StatusListener {
+    alloc: Global,
     readiness: Readiness,
     listener: TcpListener,
     // The interface, if it is a loopback interface, which it answers for alone; otherwise empty.
@@ -44,6 +45,7 @@ impl StatusListener {
         let readiness = Readiness::new(rt, alloc, MOST_CONNECTIONS + 1)?;
         readiness.add_listener(&mut listener, Token(MOST_CONNECTIONS))?;
         let mut made = StatusListener {
+            alloc,
             readiness,
             listener,
             interface: String::new(alloc),
@@ -73,14 +75,13 @@ impl StatusListener {
     pub fn take_turn<R: Wait + Clock, T: StatusTexts>(
         &mut self,
         rt: &R,
-        alloc: Global,
         keys: RandomState,
         texts: &T,
         millis: u64,
         pause: u64,
     ) {
-        let is_more = self.take_connections(alloc, keys, millis);
-        let is_open = self.go_on(alloc, texts, millis);
+        let is_more = self.take_connections(keys, millis);
+        let is_open = self.go_on(texts, millis);
         let pause = if is_more || is_open {
             pause.min(PAUSE_MS)
         } else {
@@ -92,9 +93,9 @@ impl StatusListener {
     }
 
     /// Goes on with each connection, and closes those that are over. Returns whether one is left.
-    fn go_on<T: StatusTexts>(&mut self, alloc: Global, texts: &T, millis: u64) -> bool {
+    fn go_on<T: StatusTexts>(&mut self, texts: &T, millis: u64) -> bool {
         let mut service = StatusService {
-            alloc,
+            alloc: self.alloc,
             texts,
             interface: self.interface.as_str(),
         };
@@ -113,13 +114,13 @@ impl StatusListener {
     }
 
     /// Takes the connections that wait, as many as there is room for. Returns whether others may wait.
-    fn take_connections(&mut self, alloc: Global, keys: RandomState, millis: u64) -> bool {
+    fn take_connections(&mut self, keys: RandomState, millis: u64) -> bool {
         for _ in 0..MOST_CONNECTIONS {
             let Some(place) = self.place_for_one(millis) else {
                 return true;
             };
             match self.listener.accept() {
-                Ok((stream, _)) => self.keep(alloc, keys, stream, place, millis),
+                Ok((stream, _)) => self.keep(keys, stream, place, millis),
                 Err(error) => return error.kind() != ErrorKind::WouldBlock,
             }
         }
@@ -135,14 +136,7 @@ impl StatusListener {
     }
 
     /// Watches a connection under the number of its place, and keeps it there, in place of the one that it had.
-    fn keep(
-        &mut self,
-        alloc: Global,
-        keys: RandomState,
-        stream: TcpStream,
-        place: usize,
-        millis: u64,
-    ) {
+    fn keep(&mut self, keys: RandomState, stream: TcpStream, place: usize, millis: u64) {
         let mut stream = stream;
         if self
             .readiness
@@ -154,7 +148,7 @@ impl StatusListener {
         if let Some(slot) = self.slots.get_mut(place) {
             put(
                 slot,
-                Some(StatusConnection::new(alloc, keys, stream, millis)),
+                Some(StatusConnection::new(self.alloc, keys, stream, millis)),
             );
         }
     }
