@@ -5,7 +5,7 @@ use crate::loops::{plan_and_door, supply};
 use crate::marks::{CALLS, begin, end};
 use locked_queues::{Door, ListDoor};
 use mio_loops::{LISTENER, LeftWriter, ReadTotals, ReadinessFault, SystemTimes, Token};
-use reader_core::ReaderKind;
+use reader_core::{ReaderCounts, ReaderKind};
 use receivers::{
     Accept, AcceptOutcome, Datagrams, Receiver, ReceiverRecord, ServedInput, receive_datagrams,
     receive_streams,
@@ -68,6 +68,22 @@ impl Accept for OneConnection {
     fn wait(&mut self, _millis: u64) -> Result<&[Token], ReadinessFault> {
         Ok(&[LISTENER])
     }
+
+    fn has_handed(&self) -> bool {
+        false
+    }
+
+    fn hand_over(&mut self, _token: Token, _stream: FaultyReader<'static>, _rest: &[u8]) {}
+
+    fn hand_over_others(&mut self) {}
+
+    fn note_bad(
+        &mut self,
+        _token: Token,
+        _before: ReaderCounts,
+        _now: ReaderCounts,
+        _buffer: &[u8],
+    ) {}
 
     fn accept(&mut self, _token: Option<Token>) -> AcceptOutcome<FaultyReader<'static>> {
         self.tries = self.tries.saturating_add(1);

@@ -38,9 +38,7 @@ pub trait Accept {
 
     /// Whether the next connection is one that an ended run has handed over. These come first, and a wait reports at once that
     /// they wait to be taken.
-    fn has_handed(&self) -> bool {
-        false
-    }
+    fn has_handed(&self) -> bool;
 
     /// Takes the next connection, and watches it under the token. Without a token it is closed, unless a connection gives way
     /// to it.
@@ -49,10 +47,10 @@ pub trait Accept {
     /// Takes over the connection of a token, which the receiver gives up behind these bytes: those of its unfinished line or
     /// frame. Whoever reads on is fed these first. Called for each held connection once the receiver was stopped. A listener
     /// that hands nothing on drops it.
-    fn hand_over(&mut self, _token: Token, _stream: Self::Stream, _rest: &[u8]) {}
+    fn hand_over(&mut self, token: Token, stream: Self::Stream, rest: &[u8]);
 
     /// Hands on, behind these, the connections that were handed over and that the receiver did not take.
-    fn hand_over_others(&mut self) {}
+    fn hand_over_others(&mut self);
 
     /// Takes note of what the receiver has counted since it began, and how many names its plan has emptied. Called ten times a
     /// second, or once a turn where turns are longer, and when the receiver ends.
@@ -63,13 +61,7 @@ pub trait Accept {
 
     /// Takes note that the connection of a token sent bad input: what its reader had counted before and has counted now.
     /// The buffer begins with the last piece that the connection sent.
-    fn note_bad(
-        &mut self,
-        _token: Token,
-        _before: ReaderCounts,
-        _now: ReaderCounts,
-        _buffer: &[u8],
-    ) {}
+    fn note_bad(&mut self, token: Token, before: ReaderCounts, now: ReaderCounts, buffer: &[u8]);
 
     /// Takes note that the receiver cannot begin, for this reason.
     fn note_fault(&mut self, fault: ReadinessFault);

@@ -5,6 +5,7 @@ use crate::tests::sendings::Sending;
 use crate::tests::supplies::two_lines;
 use mio_loops::{LISTENER, LeftWriter, LogInput, ReadTotals, ReadinessFault, SystemTimes, Token};
 use queue_records::{Door, Made};
+use reader_core::ReaderCounts;
 use receivers::{
     Accept, AcceptOutcome, Datagrams, Receiver, ReceiverRecord, ServedInput, receive_datagrams,
 };
@@ -75,6 +76,22 @@ impl Accept for FailingListener {
     fn wait(&mut self, _millis: u64) -> Result<&[Token], ReadinessFault> {
         Ok(&[LISTENER])
     }
+
+    fn has_handed(&self) -> bool {
+        false
+    }
+
+    fn hand_over(&mut self, _token: Token, _stream: FaultyReader<'static>, _rest: &[u8]) {}
+
+    fn hand_over_others(&mut self) {}
+
+    fn note_bad(
+        &mut self,
+        _token: Token,
+        _before: ReaderCounts,
+        _now: ReaderCounts,
+        _buffer: &[u8],
+    ) {}
 
     fn accept(&mut self, _token: Option<Token>) -> AcceptOutcome<FaultyReader<'static>> {
         self.tries = self.tries.saturating_add(1);

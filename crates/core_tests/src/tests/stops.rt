@@ -4,6 +4,7 @@ ghost use Rattle.std.specs.Prelude.{◌≤◌, length};
 
 use crate::tests::receivings::received_by;
 use mio_loops::{LISTENER, LogInput, ReadTotals, ReadinessFault, Token};
+use reader_core::ReaderCounts;
 use receivers::{Accept, AcceptOutcome, ReceiverRecord, ServedInput};
 use std::alloc::Global;
 use std::io;
@@ -64,6 +65,22 @@ impl<'a> Accept for StoppingListener<'a> {
     fn wait(&mut self, _millis: u64) -> Result<&[Token], ReadinessFault> {
         Ok(&[LISTENER])
     }
+
+    fn has_handed(&self) -> bool {
+        false
+    }
+
+    fn hand_over(&mut self, _token: Token, _stream: StoppingStream<'a>, _rest: &[u8]) {}
+
+    fn hand_over_others(&mut self) {}
+
+    fn note_bad(
+        &mut self,
+        _token: Token,
+        _before: ReaderCounts,
+        _now: ReaderCounts,
+        _buffer: &[u8],
+    ) {}
 
     fn accept(&mut self, _token: Option<Token>) -> AcceptOutcome<StoppingStream<'a>> {
         if self.taken >= CONNECTIONS {
