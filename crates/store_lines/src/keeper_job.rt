@@ -171,11 +171,25 @@ impl<'x, R: Wait + Clock + Net + SpoolDisk + Copy + Drop> ThreadWork<R, ()> for 
         };
         keeper.note_used();
         BeginNote::new(signals).note_wait();
-        keep_until_stopped(rt, &mut keeper, &times);
-        end_files(rt, alloc, &mut keeper, &times, &share);
-        keeper.connector.end();
+        keep_all(rt, alloc, &mut keeper, &times, &share);
         drop(keeper);
     }
+}
+
+/// Keeps and sends files until the senders have ended, and leaves them.
+fn keep_all<'n, 's, R: Wait + Clock + SpoolDisk + Copy + Drop, N: Connect + Drop>(
+    rt: &R,
+    alloc: Global,
+    keeper: &mut Keeper<'n, 's, N, R>,
+    times: &SystemTimes<'_, R>,
+    share: &Share<'n>,
+)
+where
+    N::Sink: HalfClose,
+{
+    keep_until_stopped(rt, keeper, times);
+    end_files(rt, alloc, keeper, times, share);
+    keeper.connector.end();
 }
 
 /// Keeps and sends files until the senders have ended. While it is to do nothing it does not use the disk.
