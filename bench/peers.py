@@ -208,6 +208,7 @@ class CarbonCRelay(Relay):
 
     peer = name = "carbon-c-relay"
     workers, roomy = 2, False
+    datagram_port = LINE_PORT
     # Where two of its nodes have one position on the ring, it places them a little differently from carbon.
     tolerance = 0.01
 

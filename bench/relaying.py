@@ -371,7 +371,7 @@ SCENES = {
     "rules": Scene("20 relay rules, one producer, one store", Plan(STORES[:1], rules=20), 50, peers=BOTH),
     "rewriting": Scene("a rewrite rule, one producer, one store", Plan(STORES[:1], rewriting=True), 50, peers=BOTH),
     "datagrams": Scene("datagrams at 50,000 a second, one store", Plan(STORES[:1], udp=True), 10, rate=50_000,
-                       peers=(DIRECT, OURS), bar=49_000),
+                       peers=(DIRECT, *BOTH, (CarbonRelay,)), bar=49_000),
     "many": Scene("1,000 connections, one store", Plan(STORES[:1], queue=1_000_000), 1, 1000, kind="few lines",
                   peers=BOTH),
     "stalled": Scene("one of four stores does not read, each gets all", Plan(STORES), 25, stalled=STORES[3:],
