@@ -7,7 +7,7 @@ from fixtures.waits import program_sources
 
 HEAD = re.compile(r"\bfn (\w+)")
 OPEN, CLOSE = "(<[{", ")>]}"
-MOST = 9  # parameters of a function, `self`, the runtime and the allocator among them
+MOST = 8  # parameters of a function, `self`, the runtime and the allocator among them
 GOOD = 6
 MANY = 9  # functions that take more; this number only falls
 

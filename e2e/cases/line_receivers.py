@@ -101,8 +101,9 @@ class LineReceivers(WithRelays):
             self.settles(relay)
             return taken
 
-    def test_a_full_receiver_leaves_connections_to_another(self):
-        """Connections that come one by one are refused only when all receivers are full."""
+    @contextlib.contextmanager
+    def both_full(self):
+        """A relay with a store and two receivers, both full, and the producers' ends of all connections."""
         self.needs_descriptors(3 * 2 * FULL)
         store, = self.stores(1)
         dests = [f"127.0.0.1:{store.port}"]
@@ -113,6 +114,11 @@ class LineReceivers(WithRelays):
                 streams.append(stack.enter_context(socket.create_connection(("127.0.0.1", relay.line), LIMIT)))
                 time.sleep(0.002)
             self.wait_for(lambda: watched(relay.child.pid, relay.line) == [FULL, FULL], "all are taken")
+            yield relay, store, streams
+
+    def test_a_full_receiver_leaves_connections_to_another(self):
+        """Connections that come one by one are refused only when all receivers are full."""
+        with self.both_full() as (relay, store, streams), contextlib.ExitStack() as stack:
             more = stack.enter_context(socket.create_connection(("127.0.0.1", relay.line), LIMIT))
             self.assertEqual(more.recv(1), b"", "one more is refused")
             for stream in streams:
@@ -130,20 +136,11 @@ class LineReceivers(WithRelays):
 
     def test_a_stop_while_one_of_two_is_full(self):
         """It shuts its port too, although it leaves connections to the other one: the stop takes no longer for that."""
-        self.needs_descriptors(3 * 2 * FULL)
         self.gets_below(CLOSING, self.stops_while_one_is_full)
 
     def stops_while_one_is_full(self):
         """How long a stop takes while one of two receivers is full, and the other one holds nothing."""
-        store, = self.stores(1)
-        dests = [f"127.0.0.1:{store.port}"]
-        with self.relay(dests, ALL.format(*dests), options=("--line-receivers", "2")) as relay, \
-                contextlib.ExitStack() as stack:
-            streams = []
-            for _ in range(2 * FULL):
-                streams.append(stack.enter_context(socket.create_connection(("127.0.0.1", relay.line), LIMIT)))
-                time.sleep(0.002)
-            self.wait_for(lambda: watched(relay.child.pid, relay.line) == [FULL, FULL], "all are taken")
+        with self.both_full() as (relay, _, streams):
             leaving = peers_of_one(relay.child.pid, relay.line)
             for stream in streams:
                 if stream.getsockname()[1] in leaving:
