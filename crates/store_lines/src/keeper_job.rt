@@ -151,11 +151,10 @@ impl<'x, R: Wait + Clock + Net + SpoolDisk + Copy + Drop> ThreadWork<R, ()> for 
         let times = SystemTimes::since(rt, began);
         places.take_files(rt, &share, &mut connector, times.millis());
         let KeeperPlaces { spool, dests, used } = places;
-        let user = DiskUser::Keeper;
-        let connector = SpoolConnector::new(connector, *rt, spool, &share, signals, user);
-        let mut keeper = Keeper {
+        let start = KeeperStart {
             connector,
-            disk: *rt,
+            spool,
+            share,
             diversions,
             notes,
             room: KeeperRoom {
@@ -167,12 +166,61 @@ impl<'x, R: Wait + Clock + Net + SpoolDisk + Copy + Drop> ThreadWork<R, ()> for 
             signals,
             dests,
             used,
+        };
+        keep_all(rt, alloc, start, &times);
+    }
+}
+
+/// What the keeper of the files begins with: what connects to the destinations, the files that are left, and the rest of
+/// [`Keeper`].
+#[derive(Drop)]
+struct KeeperStart<'n, 's, N: Connect> {
+    connector: N,
+    spool: SenderSpool<'n, N::Sink>,
+    share: Share<'n>,
+    diversions: &'n Diversions,
+    notes: &'n [SpoolNotes],
+    room: KeeperRoom<'n>,
+    gate: &'n WakeGate,
+    signals: &'s Signals,
+    dests: Vec<KeptDest>,
+    used: Vec<u64>,
+}
+
+impl<'n, 's, N: Connect + Drop> KeeperStart<'n, 's, N>
+where
+    N::Sink: HalfClose,
+{
+    /// The keeper, which reaches the files by this.
+    fn into_keeper<D: SpoolDisk + Wait + Copy + Drop>(self, disk: D) -> Keeper<'n, 's, N, D> {
+        let KeeperStart {
+            connector,
+            spool,
+            share,
+            diversions,
+            notes,
+            room,
+            gate,
+            signals,
+            dests,
+            used,
+        } = self;
+        let user = DiskUser::Keeper;
+        let connector = SpoolConnector::new(connector, disk, spool, &share, signals, user);
+        let mut keeper = Keeper {
+            connector,
+            disk,
+            diversions,
+            notes,
+            room,
+            gate,
+            signals,
+            dests,
+            used,
             note_at: 0,
         };
         keeper.note_used();
-        BeginNote::new(signals).note_wait();
-        keep_all(rt, alloc, &mut keeper, &times, &share);
-        drop(keeper);
+        keeper
     }
 }
 
@@ -180,16 +228,19 @@ impl<'x, R: Wait + Clock + Net + SpoolDisk + Copy + Drop> ThreadWork<R, ()> for 
 fn keep_all<'n, 's, R: Wait + Clock + SpoolDisk + Copy + Drop, N: Connect + Drop>(
     rt: &R,
     alloc: Global,
-    keeper: &mut Keeper<'n, 's, N, R>,
+    start: KeeperStart<'n, 's, N>,
     times: &SystemTimes<'_, R>,
-    share: &Share<'n>,
 )
 where
     N::Sink: HalfClose,
 {
-    keep_until_stopped(rt, keeper, times);
-    end_files(rt, alloc, keeper, times, share);
+    let share = start.share;
+    let mut keeper = start.into_keeper(*rt);
+    BeginNote::new(keeper.signals).note_wait();
+    keep_until_stopped(rt, &mut keeper, times);
+    end_files(rt, alloc, &mut keeper, times, &share);
     keeper.connector.end();
+    drop(keeper);
 }
 
 /// Keeps and sends files until the senders have ended. While it is to do nothing it does not use the disk.
