@@ -85,7 +85,13 @@ impl Accept for FailingListener {
 
     fn hand_over_others(&mut self) {}
 
-    fn note_bad(&mut self, _token: Token, _old: ReaderCounts, _new: ReaderCounts, _read: &[u8]) {}
+    fn note_bad(
+        &mut self,
+        _token: Token,
+        _before: ReaderCounts,
+        _now: ReaderCounts,
+        _buffer: &[u8],
+    ) {}
 
     fn accept(&mut self, _token: Option<Token>) -> AcceptOutcome<FaultyReader<'static>> {
         self.tries = self.tries.saturating_add(1);

@@ -66,6 +66,22 @@ impl<'a> Accept for StoppingListener<'a> {
         Ok(&[LISTENER])
     }
 
+    fn has_handed(&self) -> bool {
+        false
+    }
+
+    fn hand_over(&mut self, _token: Token, _stream: StoppingStream<'a>, _rest: &[u8]) {}
+
+    fn hand_over_others(&mut self) {}
+
+    fn note_bad(
+        &mut self,
+        _token: Token,
+        _before: ReaderCounts,
+        _now: ReaderCounts,
+        _buffer: &[u8],
+    ) {}
+
     fn accept(&mut self, _token: Option<Token>) -> AcceptOutcome<StoppingStream<'a>> {
         if self.taken >= CONNECTIONS {
             return AcceptOutcome::Nothing;
@@ -76,14 +92,6 @@ impl<'a> Accept for StoppingListener<'a> {
             is_read: false,
         })
     }
-
-    fn has_handed(&self) -> bool {
-        false
-    }
-
-    fn hand_over(&mut self, _token: Token, _stream: StoppingStream<'a>, _rest: &[u8]) {}
-
-    fn hand_over_others(&mut self) {}
 
     fn note_served(&mut self, _token: Token, _served: ServedInput) {}
 
@@ -98,8 +106,6 @@ impl<'a> Accept for StoppingListener<'a> {
             .connections
             .store(totals.connections, Ordering::SeqCst);
     }
-
-    fn note_bad(&mut self, _token: Token, _old: ReaderCounts, _new: ReaderCounts, _read: &[u8]) {}
 
     fn note_fault(&mut self, _fault: ReadinessFault) {}
 }
