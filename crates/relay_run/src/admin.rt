@@ -125,7 +125,23 @@ fn end_before<B: Set, R: Wait, K: Recorder>(
     }
 }
 
-/// Answers commands until one is `stop`, or until another run is ready to follow, which is returned.
+/// Answers commands until one is `stop`, or until another run is ready to follow, which is returned. Then nothing is watched any
+/// more.
+fn answer_commands<B: Set, R: Wait + Clock + Net + SystemTables + Threads, F: ReloadSource>(
+    rt: &R,
+    alloc: Global,
+    relay: &Relay<B>,
+    ports: &mut FirstPorts,
+    files: &F,
+    folder: Option<SpoolFolder<'_>>,
+) -> Option<PreparedRun<B>> {
+    let mut desk = AdminDesk::new(relay, ports, files, false);
+    let next = answer_until_ended(rt, alloc, &mut desk, folder);
+    desk.end_watches();
+    next
+}
+
+/// Answers commands until one is `stop`, or until another run is ready to follow.
 fn answer_until_ended<B: Set, R: Wait + Clock + Net + SystemTables + Threads, F: ReloadSource>(
     rt: &R,
     alloc: Global,
@@ -200,9 +216,11 @@ impl<
         } = &mut *self.state;
         answer_reloaded(rt, relay, ports, before);
         end_before(rt, alloc, relay, before, self.recorder);
-        let mut desk = AdminDesk::new(relay, ports, self.files, false);
-        put(next, answer_until_ended(rt, alloc, &mut desk, self.folder));
-        desk.source.watch_desk.end();
+        let (files, folder) = (self.files, self.folder);
+        put(
+            next,
+            answer_commands(rt, alloc, relay, ports, files, folder),
+        );
         if next.is_some() {
             relay.open_streams();
         }

@@ -55,10 +55,16 @@ impl<'p, B: Set, F: ReloadSource> AdminDesk<'p, B, F> {
         let times = SystemTimes::since(rt, self.relay.began);
         let millis = times.millis();
         self.say_refusals(rt, alloc, millis);
-        self.source.watch_desk.drain(alloc, millis, times.moment());
-        self.ports
-            .admin
-            .take_turn(rt, alloc, &mut self.source, millis, pause)
+        let source = &mut self.source;
+        source.watch_desk.drain(alloc, millis, times.moment());
+        let admin = &mut self.ports.admin;
+        admin.take_turn(rt, alloc, &mut self.source, millis, pause)
+    }
+
+    /// Nothing is watched any more.
+    pub(crate) fn end_watches(&mut self) {
+        let source = &mut self.source;
+        source.watch_desk.end();
     }
 
     /// Has the log say which connections were refused what they asked for, once a minute at most.
