@@ -216,7 +216,7 @@ class LosesOne(Store):
 
     def read(self, stream, place):
         if place == 1:
-            self.taken[place] += stream.recv(65_536)
+            self.keep(place, stream.recv(65_536))
             until(lambda: sockets.waiting(self.port) > 0)
             self.close(stream)
         else:

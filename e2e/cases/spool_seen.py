@@ -246,7 +246,7 @@ class TakesOne(Store):
 
     def read(self, stream, place):
         if place > 0:
-            self.taken[place] += stream.recv(65_536)
+            self.keep(place, stream.recv(65_536))
             self.goes_on.wait()
         super().read(stream, place)
 

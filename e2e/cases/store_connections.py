@@ -205,7 +205,7 @@ class Talking(WithRelays):
         stream = store.open[0]
         with contextlib.suppress(OSError):
             while more := stream.recv(4096):
-                store.taken[0] += more
+                store.keep(0, more)
                 time.sleep(0.001)
 
     def test_a_store_that_greets(self):
