@@ -1,3 +1,3 @@
-pub mod Fixed
 pub mod Kept
+pub mod Ports
 pub mod ReloadLine

@@ -1,7 +1,8 @@
 -- The line of the log on a reload.
-use Rattle.std.specs.Prelude.{ℕ, Bool, true, false, List, ◌++◌, codes, flat_map}
+use Rattle.std.specs.Prelude.{ℕ, Bool, true, false, List, [], ◌++◌, codes, flat_map, if◌then◌else◌}
 use Rattle.conf_text.specs.Destination.{Destination, destination_text}
 use Rattle.config_changes.specs.Kept.{lacked_by}
+use Rattle.config_changes.specs.declared.ports.ChangedPorts.{ChangedPorts}
 use Rattle.config_changes.specs.declared.reload_line.OtherChanges.{OtherChanges}
 
 abbrev pub dest_name : Destination → List ℕ
@@ -15,6 +16,16 @@ dest_words words dest = dest_name dest ++ words ++ codes ","
 abbrev pub listed : (other : List Destination) → List ℕ → List Destination → List ℕ
 listed other words dests = flat_map (dest_words words) (lacked_by other dests)
 
+abbrev pub words_if : Bool → List ℕ → List ℕ
+words_if is_so words = if is_so then words else []
+
+-- the ports of receivers that changed
+abbrev pub port_words : ChangedPorts → List ℕ
+port_words ports =
+    words_if ports.lines (codes " line port changed,")
+    ++ words_if ports.pickles (codes " pickle port changed,")
+    ++ words_if ports.datagrams (codes " udp port changed,")
+
 abbrev pub words_of : (rules rewriting : Bool) → List ℕ
 words_of true true = codes " rules and rewriting changed\n"
 words_of true false = codes " rules changed\n"
@@ -24,8 +35,8 @@ words_of false false = codes " same rules and rewriting\n"
 abbrev pub other_words : OtherChanges → List ℕ
 other_words others = words_of others.rules others.rewriting
 
--- what came, what is gone, and what else changed
+-- what came, what is gone, which ports changed, and what else did
 abbrev pub reload_line : (old new : List Destination) → OtherChanges → List ℕ
 reload_line old new others =
     codes "relay reloaded:" ++ listed old (codes " added") new
-    ++ listed new (codes " gone") old ++ other_words others
+    ++ listed new (codes " gone") old ++ port_words others.ports ++ other_words others

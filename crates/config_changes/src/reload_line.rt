@@ -3,9 +3,10 @@
 ghost use Rattle.std.specs.Prelude.{◌≡◌, [], ◌∷◌, ◌++◌, OnOk};
 ghost use Rattle.std.specs.String.{string_bytes};
 ghost use Rattle.config_changes.specs.Kept.{place_of, is_missing};
-ghost use Rattle.config_changes.specs.ReloadLine.{reload_line, listed, dest_words, dest_name, other_words};
+ghost use Rattle.config_changes.specs.ReloadLine.{reload_line, listed, dest_words, dest_name, port_words, words_if, other_words};
 
 use crate::kept::first_equal;
+use crate::ports::ChangedPorts;
 use conf_text::Dest;
 use std::alloc::AllocError;
 use std::fmt::Write as _;
@@ -13,14 +14,16 @@ use std::fmt::Write as _;
 /// What else is not as it was.
 #[derive(Clone, Copy)]
 pub struct OtherChanges {
+    /// The ports of receivers.
+    pub ports: ChangedPorts,
     /// The file of relay rules.
     pub rules: bool,
     /// The rewrite file, or the limit on names.
     pub rewriting: bool,
 }
 
-/// Adds the line on a reload: the destinations that came and those that are gone, each in the order of its list, and what else
-/// changed. Fails when out of memory; the text may have a part of the line then.
+/// Adds the line on a reload: the destinations that came and those that are gone, each in the order of its list, the ports of
+/// receivers that changed, and what else did. Fails when out of memory; the text may have a part of the line then.
 pub fn push_reload_line(
     text: &mut String,
     old: &[Dest],
@@ -33,6 +36,7 @@ pub fn push_reload_line(
     text.push_str("relay reloaded:")?;
     push_lacked(text, old, new, " added")?;
     push_lacked(text, new, old, " gone")?;
+    push_ports(text, others.ports)?;
     push_others(text, others)
 }
 
@@ -91,6 +95,22 @@ fn push_name(text: &mut String, dest: &Dest) -> Result<(), AllocError>
     ensures { OnOk result (string_bytes text.new ≡ string_bytes text.old ++ dest_name dest.now) }
 {
     write!(text, " destination {dest}")
+}
+
+/// Adds the ports of receivers that changed, by what `relayd: listen: ..` calls them.
+fn push_ports(text: &mut String, ports: ChangedPorts) -> Result<(), AllocError>
+    ensures { OnOk result (string_bytes text.new ≡ string_bytes text.old ++ port_words ports) }
+{
+    push_if(text, ports.lines, " line port changed,")?;
+    push_if(text, ports.pickles, " pickle port changed,")?;
+    push_if(text, ports.datagrams, " udp port changed,")
+}
+
+/// Adds these words if this is so.
+fn push_if(text: &mut String, is_so: bool, words: &str) -> Result<(), AllocError>
+    ensures { OnOk result (string_bytes text.new ≡ string_bytes text.old ++ words_if is_so words.now) }
+{
+    if is_so { text.push_str(words) } else { Ok(()) }
 }
 
 /// Adds what else changed, and ends the line.

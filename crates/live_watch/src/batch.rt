@@ -1,7 +1,7 @@
 //! What a receiver hands over to a watch.
 
-use crate::receiver_name::ReceiverName;
 use dest_queue::Kept;
+use log_lines::ReceiverName;
 use relay_base::{DestId, NoMemory};
 use std::alloc::Global;
 use std::net::IpAddr;

@@ -2,6 +2,7 @@
 
 use crate::batch::{PieceHead, PieceStart, SeenPiece};
 use crate::found::{FoundPiece, LineEnds};
+use crate::receiver_kind::kind_of;
 use line_text::Moment;
 use pickle_subset::PickleReader;
 use reader_core::ReaderKind;
@@ -44,7 +45,7 @@ impl ConnectionShadows {
     ) -> Result<FoundPiece, NoMemory> {
         let SeenPiece { head, bytes, .. } = piece;
         let mut found = FoundPiece::none(self.alloc);
-        match head.receiver.kind() {
+        match kind_of(head.receiver) {
             ReaderKind::Datagram => read_datagram(self.alloc, bytes, moment, &mut found)?,
             ReaderKind::Line => self.read_lines(head, bytes, moment, &mut found)?,
             ReaderKind::Pickle => self.read_frames(head, bytes, moment, &mut found)?,

@@ -3,11 +3,11 @@
 ghost use Rattle.live_watch.specs.SentPoints.{IsSentAndOffered};
 
 use crate::batch::NotedOffer;
-use crate::receiver_name::ReceiverName;
 use conf_text::Dest;
 use dest_queue::Kept;
 use line_text::{LineBuf, Point, print_line};
 use log_format::{push_key, push_member, push_string};
+use log_lines::ReceiverName;
 use note_text::EscapedText;
 use relay_base::{NoMemory, strip, utf8_text};
 use router::{Plan, Sent};

@@ -20,6 +20,7 @@ mod losses_line;
 mod noted_address;
 mod producers;
 mod receiver_counts;
+mod receiver_name;
 mod receiver_notes;
 mod why;
 
@@ -38,5 +39,6 @@ pub use losses::{LOSS_REASONS, LoggedLosses, LossCounts, LossNotes, LossReason, 
 pub use losses_line::{InputUnit, push_losses_line};
 pub use producers::{Producer, ProducerCounts, ProducerPlace, ProducerWindow};
 pub use receiver_counts::ReceiverCounts;
+pub use receiver_name::{RECEIVER_PLACES, ReceiverName};
 pub use receiver_notes::{LoggedReceiver, ReceiverNotes, ReceiverState};
 pub use why::Why;

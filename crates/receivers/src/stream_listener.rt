@@ -188,13 +188,19 @@ impl StreamListener {
         Ok(Arc::try_clone(&self.connections.control)?)
     }
 
-    /// Takes first the connections that are there, which the receiver of an ended run handed over, as if they were new; but the
-    /// bytes that were not read come first. Once the receiver is stopped, its connections go there, if they are handed over.
+    /// Once the receiver is stopped, its connections go there, if they are handed over.
     pub fn set_handed(&mut self, handed: Arc<HandedStreams>) {
-        let mut resumed = handed.take(self.alloc);
-        resumed.reverse();
-        self.resumed = resumed;
         self.handed = Some(handed);
+    }
+
+    /// Takes first the connections that are there where its own go, which the receiver of an ended run handed over, as if they were
+    /// new; but the bytes that were not read come first.
+    pub fn resume_handed(&mut self) {
+        if let Some(handed) = &self.handed {
+            let mut resumed = handed.take(self.alloc);
+            resumed.reverse();
+            self.resumed = resumed;
+        }
     }
 
     /// The address of the connection of a token, or of the last that it had.

@@ -3,7 +3,6 @@
 ghost use Rattle.std.specs.Prelude.{◌≡◌, true, IfErr};
 ghost use Rattle.relay_ports.specs.StartFault.{is_start_fault};
 
-use crate::listeners::BoundPort;
 use conf_text::Settings;
 use mio::Poll;
 use mio_loops::MOST_CONNECTIONS;
@@ -23,11 +22,16 @@ const KEPT_FOR_OTHERS: usize = 4;
 /// is sent, and the one that is written.
 const DIVERTED: usize = 3;
 
+/// How many descriptors a receiver has: its port, another one of it that the first thread keeps, and what it waits with, which is
+/// two.
+pub(crate) const DESCRIPTORS_EACH: usize = 4;
+
 /// What the descriptors of a run are for, beside its ports.
 #[derive(Clone, Copy)]
 struct Uses {
-    /// Receivers of connections.
+    /// Receivers of connections, and all receivers.
     streams: usize,
+    receivers: usize,
     /// What threads wait with: one for each, and its alarm. A receiver of datagrams has the system's table of them.
     threads: usize,
     /// One for each destination, [`DIVERTED`] more if destinations are diverted, and [`KEPT_FOR_OTHERS`].
@@ -56,6 +60,7 @@ impl Uses {
         };
         Uses {
             streams,
+            receivers,
             threads: threads.saturating_mul(2).saturating_add(datagrams),
             kept: settings
                 .destinations()
@@ -123,7 +128,9 @@ pub(crate) fn room_of<R: Net>(
     ensures { IfErr result (λ fault. is_start_fault fault ≡ true) }
 {
     let uses = Uses::of(settings, options);
-    let free = free_descriptors(rt, alloc, uses.most())?;
+    // Each receiver gets another one of its port, which is bound.
+    let most = uses.most().saturating_add(uses.receivers);
+    let free = free_descriptors(rt, alloc, most)?.saturating_sub(uses.receivers);
     if free < uses.least() {
         return Err(RelayFault::Listen {
             role: ListenRole::Admin,
@@ -139,15 +146,18 @@ pub(crate) fn room_of<R: Net>(
     Ok(None)
 }
 
-/// Gives the receivers of connections this room, which they share.
-pub(crate) fn share_room(
-    room: &Arc<ConnectionRoom>,
-    bound: &mut [BoundPort],
-) -> Result<(), NoMemory> {
-    for bound in bound.iter_mut() {
-        if let BoundPort::Lines(port, _) | BoundPort::Pickles(port) = bound {
-            port.set_room(Arc::try_clone(room)?);
-        }
-    }
-    Ok(())
+/// Whether the system has enough descriptors left for all connections that the receivers of these settings may hold.
+pub(crate) fn has_room_for<R: Net>(
+    rt: &R,
+    alloc: Global,
+    settings: &Settings,
+    options: RunOptions,
+) -> Result<bool, NoMemory> {
+    let most = Uses::of(settings, options).most();
+    Ok(free_descriptors(rt, alloc, most)? >= most)
+}
+
+/// How many receivers a run by settings has.
+pub fn receivers_of(settings: &Settings, options: RunOptions) -> usize {
+    Uses::of(settings, options).receivers
 }

@@ -3,17 +3,16 @@
 ghost use Rattle.std.specs.Prelude.{◌≡◌, true, IfErr};
 ghost use Rattle.relay_ports.specs.StartFault.{is_start_fault};
 
-use crate::listeners::BoundPort;
 use crate::system_tables::SystemTables;
-use live_watch::ReceiverName;
-use log_lines::{InputUnit, ReceiverNotes};
+use log_lines::{ReceiverName, ReceiverNotes};
 use mio::net::UdpSocket;
 use mio_loops::ReadinessFault;
 use reader_core::ReaderKind;
-use receivers::{DatagramSocket, HandedStreams, ReceiverControl, StreamListener};
+use receivers::{DatagramSocket, HandedStreams, ReceiverControl, StreamListener, StreamPort};
 use relay_base::NoMemory;
 use relay_files::{ListenRole, RelayFault};
 use std::alloc::Global;
+use std::net;
 use std::net::Net;
 use std::sync::Arc;
 
@@ -30,35 +29,46 @@ pub enum Inlet {
 }
 
 impl Inlet {
-    /// Watches a bound port. If the system refuses, that is the port's fault.
-    pub(crate) fn new<R: Net + SystemTables>(
+    /// Watches a port of lines, for the receiver of this name. If the system refuses, that is the port's fault.
+    pub(crate) fn lines<R: Net>(
         rt: &R,
         alloc: Global,
-        bound: BoundPort,
+        port: StreamPort,
+        name: ReceiverName,
     ) -> Result<Inlet, RelayFault>
         ensures { IfErr result (λ fault. is_start_fault fault ≡ true) }
     {
-        match bound {
-            BoundPort::Lines(port, name) => {
-                match StreamListener::new(rt, alloc, port, ReaderKind::Line) {
-                    Ok(listener) => Ok(Inlet::Lines(listener, name)),
-                    Err(fault) => Err(listen_fault(ListenRole::Line, fault)),
-                }
-            }
-            BoundPort::Pickles(port) => {
-                match StreamListener::new(rt, alloc, port, ReaderKind::Pickle) {
-                    Ok(listener) => Ok(Inlet::Pickles(listener)),
-                    Err(fault) => Err(listen_fault(ListenRole::Pickle, fault)),
-                }
-            }
-            BoundPort::Datagrams(socket) => match datagrams_of(
-                rt,
-                alloc,
-                UdpSocket::from_std(socket),
-            ) {
-                Ok(socket) => Ok(Inlet::Datagrams(socket)),
-                Err(fault) => Err(listen_fault(ListenRole::Udp, fault)),
-            },
+        match StreamListener::new(rt, alloc, port, ReaderKind::Line) {
+            Ok(listener) => Ok(Inlet::Lines(listener, name)),
+            Err(fault) => Err(watch_fault(fault, ListenRole::Line)),
+        }
+    }
+
+    /// Watches a port of pickles. If the system refuses, that is the port's fault.
+    pub(crate) fn pickles<R: Net>(
+        rt: &R,
+        alloc: Global,
+        port: StreamPort,
+    ) -> Result<Inlet, RelayFault>
+        ensures { IfErr result (λ fault. is_start_fault fault ≡ true) }
+    {
+        match StreamListener::new(rt, alloc, port, ReaderKind::Pickle) {
+            Ok(listener) => Ok(Inlet::Pickles(listener)),
+            Err(fault) => Err(watch_fault(fault, ListenRole::Pickle)),
+        }
+    }
+
+    /// Watches a port of datagrams. If the system refuses, that is the port's fault.
+    pub(crate) fn datagrams<R: Net + SystemTables>(
+        rt: &R,
+        alloc: Global,
+        socket: net::UdpSocket,
+    ) -> Result<Inlet, RelayFault>
+        ensures { IfErr result (λ fault. is_start_fault fault ≡ true) }
+    {
+        match datagrams_of(rt, alloc, UdpSocket::from_std(socket)) {
+            Ok(socket) => Ok(Inlet::Datagrams(socket)),
+            Err(fault) => Err(watch_fault(fault, ListenRole::Udp)),
         }
     }
 
@@ -71,22 +81,16 @@ impl Inlet {
         }
     }
 
-    /// The kind of the readers of what arrives here.
-    pub fn kind(&self) -> ReaderKind {
-        self.name().kind()
-    }
-
     /// From now on a connection that has sent no datapoint for this number of seconds is closed; with 0 none is.
-    pub fn set_idle(&mut self, seconds: u64) {
+    pub(crate) fn set_idle(&mut self, seconds: u64) {
         match self {
             Inlet::Lines(listener, _) | Inlet::Pickles(listener) => listener.set_idle(seconds),
             Inlet::Datagrams(_) => {}
         }
     }
 
-    /// The connections that the receiver of an ended run handed over come first; and those that it holds go there if another
-    /// run follows.
-    pub fn set_handed(&mut self, handed: &Arc<HandedStreams>) -> Result<(), NoMemory> {
+    /// Once the receiver is stopped, its connections go there, if another run follows.
+    pub(crate) fn set_handed(&mut self, handed: &Arc<HandedStreams>) -> Result<(), NoMemory> {
         let handed = Arc::clone(handed)?;
         match self {
             Inlet::Lines(listener, _) | Inlet::Pickles(listener) => listener.set_handed(handed),
@@ -95,25 +99,24 @@ impl Inlet {
         Ok(())
     }
 
+    /// The connections that the receiver of an ended run handed over come first. That one has ended.
+    pub fn resume_handed(&mut self) {
+        match self {
+            Inlet::Lines(listener, _) | Inlet::Pickles(listener) => listener.resume_handed(),
+            Inlet::Datagrams(_) => {}
+        }
+    }
+
     /// What closes and wakes the receiver. Refuses if out of memory.
-    pub fn control(&self) -> Result<Arc<ReceiverControl>, NoMemory> {
+    pub(crate) fn control(&self) -> Result<Arc<ReceiverControl>, NoMemory> {
         match self {
             Inlet::Lines(listener, _) | Inlet::Pickles(listener) => listener.control(),
             Inlet::Datagrams(socket) => socket.control(),
         }
     }
 
-    /// What its readers read whole.
-    pub fn unit(&self) -> InputUnit {
-        match self {
-            Inlet::Lines(..) => InputUnit::Line,
-            Inlet::Pickles(_) => InputUnit::Frame,
-            Inlet::Datagrams(_) => InputUnit::Datagram,
-        }
-    }
-
     /// From now on the events of the port are noted here. Refuses if out of memory.
-    pub fn set_notes(&mut self, notes: &Arc<ReceiverNotes>) -> Result<(), NoMemory> {
+    pub(crate) fn set_notes(&mut self, notes: &Arc<ReceiverNotes>) -> Result<(), NoMemory> {
         let own = Arc::clone(notes)?;
         match self {
             Inlet::Lines(listener, _) | Inlet::Pickles(listener) => listener.set_notes(own),
@@ -142,8 +145,8 @@ fn datagrams_of<R: Net + SystemTables>(
     }
 }
 
-/// The fault of a port that cannot be watched.
-fn listen_fault(role: ListenRole, fault: ReadinessFault) -> RelayFault
+/// The fault of a port of this role that cannot be watched.
+pub(crate) fn watch_fault(fault: ReadinessFault, role: ListenRole) -> RelayFault
     ensures { is_start_fault result ≡ true }
 {
     match fault {

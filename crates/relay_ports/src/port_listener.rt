@@ -2,7 +2,8 @@
 
 ghost use Rattle.std.specs.Prelude.{◌≡◌, IfErr};
 
-use live_watch::{PieceHead, PieceStart, ReceiverName, Tap};
+use live_watch::{PieceHead, PieceStart, Tap};
+use log_lines::ReceiverName;
 use mio_loops::{MOST_CONNECTIONS, ReadTotals, ReadinessFault, Token};
 use reader_core::ReaderCounts;
 use receivers::{Accept, AcceptOutcome, HeldStream, ServedInput, StreamListener};

@@ -7,8 +7,9 @@ ghost use Rattle.std.specs.Io.{ReadsAtMost};
 use crate::inlet::Inlet;
 use crate::port_listener::{PortListener, PortNotes, Share};
 use live_watch::{
-    NotesOffers, PieceHead, PieceOffers, PieceStart, ReceiverName, Tap, WatchPlace, WatchedDoor,
+    NotesOffers, PieceHead, PieceOffers, PieceStart, Tap, WatchPlace, WatchedDoor, kind_of,
 };
+use log_lines::ReceiverName;
 use mio_loops::{ReadTotals, ReadinessFault, StopFlag, SystemTimes, TimeSource};
 use queue_records::Door;
 use reader_core::ReaderCounts;
@@ -139,7 +140,7 @@ fn receive_connections<
         number,
         notes,
     } = inflow;
-    let kind = notes.name.kind();
+    let kind = kind_of(notes.name);
     let receiver = Receiver {
         source: PortListener::new(source, notes),
         number,

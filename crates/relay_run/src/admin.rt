@@ -18,15 +18,16 @@ use crate::start::Process;
 use finished_run::Recorder;
 use locked_queues::Set;
 use mio_loops::{SystemTimes, TimeSource};
-use receivers::{ClosingWait, ReceiverControl};
+use receivers::{ClosingWait, wake_receivers};
 use relay_base::put;
-use relay_ports::{FirstPorts, SystemTables};
+use relay_ports::{FirstPorts, NewPorts, SystemTables};
 use relay_watchers::{LogEnd, StatusServer};
 use run_threads::{FirstWork, RunEnd};
 use std::alloc::Global;
+use std::mem;
 use std::net::Net;
 use std::rt::Clock;
-use std::sync::{Arc, Wait};
+use std::sync::Wait;
 use std::thread::Threads;
 
 /// How many milliseconds a turn waits at most while there is no connection.
@@ -221,8 +222,9 @@ impl<
             next,
             answer_commands(rt, alloc, relay, ports, files, folder),
         );
-        if next.is_some() {
-            relay.open_streams();
+        if let Some(next) = next {
+            let receivers = &next.next.held.receivers;
+            relay.receivers.open_handed(receivers.ports.changed());
         }
     }
 
@@ -243,13 +245,35 @@ impl<
         answer_until_over(rt, alloc, &mut desk, PartingWait::new(&relay.gone));
     }
 
-    fn close_receivers(&mut self, rt: &R, alloc: Global, controls: &[Arc<ReceiverControl>]) {
+    fn close_receivers(&mut self, rt: &R, alloc: Global) {
+        let relay = self.relay;
         self.state.ports.shut();
-        spool_away(self.relay);
-        let millis = SystemTimes::since(rt, self.relay.began).millis();
-        let closing = ClosingWait::begin(controls, millis);
-        let mut desk = AdminDesk::new(self.relay, &mut self.state.ports, self.files, true);
+        spool_away(relay);
+        let millis = SystemTimes::since(rt, relay.began).millis();
+        let closing = ClosingWait::begin(relay.receivers.controls(), millis);
+        let mut desk = AdminDesk::new(relay, &mut self.state.ports, self.files, true);
         answer_until_over(rt, alloc, &mut desk, closing);
+    }
+
+    fn close_leaving(&mut self, rt: &R, alloc: Global) {
+        let (relay, files) = (self.relay, self.files);
+        let FirstState { ports, next, .. } = &mut *self.state;
+        let Some(next) = next else {
+            return;
+        };
+        let receivers = &mut next.next.held.receivers;
+        ports.replace(mem::replace(&mut receivers.ports, NewPorts::none()));
+        if receivers.leaving.is_empty() {
+            return;
+        }
+        let millis = SystemTimes::since(rt, relay.began).millis();
+        let closing = ClosingWait::begin(receivers.leaving.as_slice(), millis);
+        let mut desk = AdminDesk::new(relay, ports, files, true);
+        answer_until_over(rt, alloc, &mut desk, closing);
+    }
+
+    fn wake_receivers(&self) {
+        wake_receivers(self.relay.receivers.controls());
     }
 
     fn drain(&mut self, rt: &R, alloc: Global) {

@@ -14,16 +14,14 @@ use dest_writer::Writer;
 use finished_run::{FinishedRun, Recorder, RunPlace, RunShape};
 use handover::Rest;
 use locked_queues::{EndRoom, EndedSet, Set};
-use receivers::HandedStreams;
 use relay_base::{LARGEST_MESSAGE, MOST_DESTINATIONS, NoMemory};
 use relay_files::RunConfiguration;
 use run_state::RunNotes;
 use std::alloc::Global;
-use std::sync::Arc;
 use store_lines::{DestCarryOver, DestSlots, GoneDests, counts_of};
 
 /// What a run leaves that another one follows: what its record is made of, and, by its own places, what was noted, what is left
-/// for each destination and how much of its queue found no room there, and the connections of each receiver.
+/// for each destination, and how much of its queue found no room there.
 #[derive(Drop)]
 pub(crate) struct EndedRun {
     pub(crate) record: EndedRecord,
@@ -31,7 +29,6 @@ pub(crate) struct EndedRun {
     pub(crate) slots: DestSlots,
     pub(crate) dropped: [u64; MOST_DESTINATIONS],
     pub(crate) gone: GoneDests,
-    pub(crate) streams: Vec<Arc<HandedStreams>>,
 }
 
 /// What the record of a run is made of: its number, its configuration and its numbers, its queues without their datapoints, and
@@ -102,7 +99,7 @@ pub(crate) fn ended_of<B: Set>(
         state,
         slots,
         gone,
-        streams,
+        receivers,
         number,
         ..
     } = relay;
@@ -116,9 +113,10 @@ pub(crate) fn ended_of<B: Set>(
             *dropped = count;
         }
     }
-    for receiver in notes.receivers.as_slice() {
-        receiver.begin_run();
+    for receiver in receivers.known() {
+        receiver.notes.begin_run();
     }
+    drop(receivers);
     EndedRun {
         record: EndedRecord {
             number,
@@ -131,7 +129,6 @@ pub(crate) fn ended_of<B: Set>(
         slots,
         dropped,
         gone,
-        streams,
     }
 }
 

@@ -10,7 +10,7 @@ use dest_queue::EarlierCounts;
 use locked_queues::Set;
 use log_lines::DestNotes;
 use relay_base::{DestId, NoMemory, add};
-use relay_ports::{FirstPorts, Ports};
+use relay_ports::{FirstPorts, Holders, NextReceivers, Ports};
 use relay_watchers::{ReceiverLog, StatusServer};
 use run_state::{RestNotes, RunNotes};
 use spool::{DestSpool, SpoolFiles};
@@ -119,7 +119,17 @@ pub(crate) fn start_after<F>(
     }
     // Without memory for that the log lacks it.
     let _said = say_drops(&mut news, ended);
-    let stores_before = ended.slots.len().saturating_add(ended.gone.dests.len());
+    let before = Holders {
+        stores: ended.slots.len().saturating_add(ended.gone.dests.len()),
+        receivers: ended.record.shape.receivers,
+    };
+    let NextReceivers {
+        inlets,
+        receivers: known,
+        ports,
+        leaving,
+    } = receivers;
+    drop((ports, leaving));
     let SpoolFiles {
         dests: mut found,
         news: said,
@@ -128,21 +138,22 @@ pub(crate) fn start_after<F>(
     new_places.carry_over(ended, &places, &mut found);
     let drain_millis = process.setup.options.drain.saturating_mul(1_000);
     new_places.add_gone(ended, millis.saturating_add(drain_millis));
-    let carry_over = carry_over_of(alloc, ended, new_places, logged, news);
+    let carry_over = carry_over_of(new_places, logged, news);
     if carry_over.gone.are_none() {
         shared.drop_gone(alloc);
     }
-    let stores = places
-        .kept
-        .len()
-        .saturating_add(carry_over.gone.dests.len());
-    first.keep_for_stores(stores_before, stores);
-    let shape = shape_of(configuration.settings(), receivers.len(), process);
+    let shape = shape_of(configuration.settings(), inlets.len(), process);
+    let now = Holders {
+        stores: shape.dests.saturating_add(carry_over.gone.dests.len()),
+        receivers: shape.receivers,
+    };
+    first.keep_for_others(before, now);
     let begun = Begun {
         configuration,
         shape,
         ports: Ports {
-            receivers,
+            receivers: inlets,
+            known,
             first,
             status: server,
         },
@@ -193,14 +204,8 @@ fn add_parting(
     Ok(())
 }
 
-/// What the next run begins with of what this one leaves, with its destinations at these places. It takes no memory.
-fn carry_over_of(
-    alloc: Global,
-    ended: &mut EndedRun,
-    places: NewPlaces,
-    logged: Vec<ReceiverLog>,
-    news: String,
-) -> RunCarryOver {
+/// What the next run begins with, with what is left for its destinations at these places. It takes no memory.
+fn carry_over_of(places: NewPlaces, logged: Vec<ReceiverLog>, news: String) -> RunCarryOver {
     let NewPlaces {
         slots,
         dests,
@@ -211,7 +216,6 @@ fn carry_over_of(
     } = places;
     drop(parting);
     let notes = RunNotes {
-        receivers: mem::replace(&mut ended.notes.receivers, Vec::new(alloc)),
         dests,
         earlier,
         rests,
@@ -219,7 +223,6 @@ fn carry_over_of(
     RunCarryOver {
         notes,
         slots,
-        streams: mem::replace(&mut ended.streams, Vec::new(alloc)),
         gone,
         logged,
         news,

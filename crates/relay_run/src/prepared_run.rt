@@ -14,14 +14,15 @@ use crate::spool_folder::{SpoolFolder, no_files};
 use admin_client::Refusal;
 use conf_text::{Dest, Settings};
 use config_changes::{
-    FixedChange, OtherChanges, first_fixed_change, kept_places, place_of, push_reload_line,
+    ChangedPorts, OtherChanges, changed_ports, kept_places, place_of, push_reload_line,
 };
 use dest_queue::DestQueue;
 use locked_queues::{BlankTotals, EndRoom, MOST_RECEIVERS, Set};
 use queue_records::READERS_EACH;
 use relay_base::{DestId, MOST_DESTINATIONS, NoMemory, add};
-use relay_files::{RelayFault, RunConfiguration};
-use relay_ports::{FirstPorts, Inlet, SystemTables};
+use relay_files::{ListenRole, RelayFault, RunConfiguration};
+use relay_options::RunOptions;
+use relay_ports::{FirstPorts, NewPorts, NextReceivers, SystemTables, receivers_of};
 use spool::SpoolFiles;
 use std::alloc::Global;
 use std::net::Net;
@@ -56,10 +57,11 @@ pub(crate) struct NextPlan {
     pub(crate) connection: u64,
 }
 
-/// What a run needs that is to follow this one, beside its configuration and what is held. Its files are open once they were asked
-/// for. The line is that of the answer.
+/// What a run needs that is to follow this one, beside its configuration and what is held, and which of its receivers listen
+/// somewhere else. Its files are open once they were asked for. The line is that of the answer.
 #[derive(Drop)]
 pub(crate) struct MadeReady {
+    changed: ChangedPorts,
     pub(crate) places: KeptPlaces,
     asked: Option<FilesAsked>,
     pub(crate) files: SpoolFiles,
@@ -74,11 +76,11 @@ pub(crate) struct KeptPlaces {
     pub(crate) returned: Vec<Option<DestId>>,
 }
 
-/// What is held for a run that is to follow this one, beside its files: what it receives with, the places of its destinations, and
+/// What is held for a run that is to follow this one, beside its files: its receivers, the places of its destinations, and
 /// what its threads share; and the first lines of its log.
 #[derive(Drop)]
 pub(crate) struct Held {
-    pub(crate) receivers: Vec<Inlet>,
+    pub(crate) receivers: NextReceivers,
     pub(crate) new_places: NewPlaces,
     pub(crate) shared: SharedParts,
     pub(crate) news: String,
@@ -106,7 +108,7 @@ impl<B: Set> ReadyRun<B> {
 }
 
 /// Makes ready what a run by a configuration needs of memory, and tries what can be made only once the one that runs has ended.
-/// Refuses another setting of a port, and what the system is short of; then nothing has changed.
+/// Refuses too many destinations that are gone, and what the system is short of; then nothing has changed.
 pub(crate) fn ready_by<B: Set, R: Net + Threads>(
     rt: &R,
     alloc: Global,
@@ -135,8 +137,9 @@ pub(crate) fn ready_by<B: Set, R: Net + Threads>(
     }
 }
 
-/// Makes and holds what a run needs that is ready, before the one that runs ends. Refuses what the system is short of: then its
-/// files are closed, and the log says what was done in their folder.
+/// Makes and holds what a run needs that is ready, before the one that runs ends: first its ports that change. Refuses (`listen`) a
+/// port that cannot be bound, and what the system is short of: then its files are closed, and the log says what was done in their
+/// folder.
 pub(crate) fn prepared_by<B: Set, R: Net + SystemTables + Wait>(
     rt: &R,
     alloc: Global,
@@ -150,7 +153,7 @@ pub(crate) fn prepared_by<B: Set, R: Net + SystemTables + Wait>(
         made,
         room,
     } = ready;
-    match held_for(rt, alloc, relay, ports, &made) {
+    match held_by(rt, alloc, relay, ports, &configuration, &made) {
         Ok(held) => {
             let next = NextPlan {
                 configuration,
@@ -160,12 +163,32 @@ pub(crate) fn prepared_by<B: Set, R: Net + SystemTables + Wait>(
             };
             Ok(PreparedRun { next, room })
         }
-        Err(shortage) => {
+        Err(refused) => {
             drop((configuration, room));
             let MadeReady { files, .. } = made;
             close_files(rt, relay, files);
-            Err(refused_for(alloc, shortage))
+            Err(refused)
         }
+    }
+}
+
+/// Binds the ports that change for a run that is ready, and makes what it holds.
+fn held_by<B: Set, R: Net + SystemTables>(
+    rt: &R,
+    alloc: Global,
+    relay: &Relay<B>,
+    ports: &FirstPorts,
+    configuration: &RunConfiguration,
+    made: &MadeReady,
+) -> Result<Held, RefusedReload> {
+    let (settings, options) = (configuration.settings(), relay.shape.options);
+    let bound = match ports.bind_changed(rt, alloc, settings, options, made.changed) {
+        Ok(bound) => bound,
+        Err(fault) => return Err(refused_port(alloc, fault)),
+    };
+    match held_for(rt, alloc, relay, ports, bound, made) {
+        Ok(held) => Ok(held),
+        Err(shortage) => Err(refused_for(alloc, shortage)),
     }
 }
 
@@ -176,17 +199,12 @@ pub(crate) fn close_files<B: Set, R: Wait>(rt: &R, relay: &Relay<B>, files: Spoo
     relay.say(rt, news);
 }
 
-/// Why a run by a configuration cannot follow this one, whatever the system has: another setting of a port, or too many
-/// destinations that are gone.
+/// Why a run by a configuration cannot follow this one, whatever the system has: too many destinations that are gone.
 fn refusal_of<B: Set>(
     alloc: Global,
     relay: &Relay<B>,
     configuration: &RunConfiguration,
 ) -> Option<RefusedReload> {
-    let (old, new) = (relay.configuration.settings(), configuration.settings());
-    if let Some(setting) = first_fixed_change(old, new) {
-        return Some(needs_restart(alloc, FixedChange { setting, old, new }));
-    }
     if gone_count(relay, configuration) > MOST_DESTINATIONS {
         let text = String::from_str(
             alloc,
@@ -223,12 +241,14 @@ fn made_ready<B: Set>(
     folder: Option<SpoolFolder<'_>>,
 ) -> Result<(MadeReady, EndRoom<B>), NoMemory> {
     let settings = configuration.settings();
-    try_queues(alloc, settings, relay.shape.receivers)?;
+    try_queues(alloc, settings, seats_of(settings, relay.shape.options))?;
     let dests = settings.destinations();
-    let line = reload_line(alloc, &relay.configuration, configuration)?;
+    let changed = changed_ports(relay.configuration.settings(), settings);
+    let line = reload_line(alloc, &relay.configuration, configuration, changed)?;
     let places = kept_of(alloc, relay, dests)?;
     let asked = asked_of(alloc, dests, &places, folder)?;
     let made = MadeReady {
+        changed,
         asked,
         files: no_files(alloc, dests.len())?,
         line,
@@ -244,10 +264,12 @@ fn held_for<B: Set, R: Net + SystemTables>(
     alloc: Global,
     relay: &Relay<B>,
     ports: &FirstPorts,
+    bound: NewPorts,
     made: &MadeReady,
 ) -> Result<Held, Shortage> {
     let news = first_lines(alloc, made.line.as_str(), made.files.news.as_str())?;
-    let receivers = match ports.for_receivers(rt, alloc) {
+    let options = relay.shape.options;
+    let receivers = match ports.receivers_after(rt, alloc, &relay.receivers, bound, options) {
         Ok(receivers) => receivers,
         Err(fault) => {
             drop(news);
@@ -260,6 +282,7 @@ fn held_for<B: Set, R: Net + SystemTables>(
     };
     let shape = Shape {
         dests: made.places.kept.len(),
+        receivers: receivers.inlets.len(),
         ..relay.shape
     };
     match SharedParts::new(rt, alloc, shape, new_places.may_be_gone()) {
@@ -317,6 +340,13 @@ fn known_places(alloc: Global, places: &KeptPlaces) -> Result<Vec<bool>, NoMemor
     Ok(known)
 }
 
+/// How many receivers have seats in a run by settings: one at least.
+fn seats_of(settings: &Settings, options: RunOptions) -> usize
+    ensures { (1 ≤ result) × (result ≤ MOST_RECEIVERS) }
+{
+    receivers_of(settings, options).clamp(1, MOST_RECEIVERS)
+}
+
 /// Makes the queues of settings for so many receivers, and drops them: the run that follows finds the memory for its own then.
 fn try_queues(alloc: Global, settings: &Settings, receivers: usize) -> Result<(), NoMemory>
     requires receivers { (1 ≤ receivers) × (receivers ≤ MOST_RECEIVERS) }
@@ -336,9 +366,11 @@ fn reload_line(
     alloc: Global,
     old: &RunConfiguration,
     new: &RunConfiguration,
+    ports: ChangedPorts,
 ) -> Result<String, NoMemory> {
     let mut line = String::new(alloc);
     let others = OtherChanges {
+        ports,
         rules: !old.has_same_rules(new),
         rewriting: !old.has_same_rewriting(new),
     };
@@ -347,13 +379,15 @@ fn reload_line(
     Ok(line)
 }
 
-/// The refusal of another setting of a port.
-fn needs_restart(alloc: Global, change: FixedChange<'_>) -> RefusedReload {
-    RefusedReload::with_text(
-        alloc,
-        Refusal::Configuration,
-        format!(in alloc; "{change}: needs a restart\n"),
-    )
+/// The refusal of a port that cannot be bound, as a start has it; of the admin port it means that descriptors are short.
+fn refused_port(alloc: Global, fault: RelayFault) -> RefusedReload {
+    match fault {
+        RelayFault::NoMemory => refused_for(alloc, Shortage::Memory),
+        RelayFault::Listen {
+            role: ListenRole::Admin,
+        } => refused_for(alloc, Shortage::Descriptors),
+        fault => RefusedReload::with_text(alloc, Refusal::Device, format!(in alloc; "{fault}\n")),
+    }
 }
 
 /// What the system was short of for another one of a port, which is bound already, or for what a sender waits with.

@@ -4,6 +4,7 @@ ghost use Rattle.std.specs.Prelude.{◌≡◌, ◌≤◌, length, Some};
 ghost use Rattle.relay_run.specs.Running.{fault_of_plan};
 
 use finished_run::FedLog;
+use live_watch::kind_of;
 use locked_queues::{DoorRecord, LockedDoor, Set};
 use mio_loops::{InputLog, ReadinessFault};
 use reader_core::ReaderKind;
@@ -57,7 +58,7 @@ fn receive_until_stopped<B: Set, R: Wait + Clock>(
         door,
         is_recorded,
     } = job;
-    let kind = port.inlet.kind();
+    let kind = kind_of(port.inlet.name());
     let left = match configuration.plan(alloc) {
         Ok(plan) => port.receive(rt, alloc, plan, door, signals),
         Err(fault) => receive_nothing(alloc, port, door, fault_of_plan(fault)),

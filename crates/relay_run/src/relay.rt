@@ -12,15 +12,14 @@ use locked_queues::{
     DoorSeat, MOST_RECEIVERS, Opened, OutletSeat, Queues, Set, SettleFault, Settled,
 };
 use mio_loops::Readiness;
-use receivers::HandedStreams;
 use relay_base::{LARGEST_MESSAGE, LARGEST_QUEUE_SIZE, MOST_DESTINATIONS};
 use relay_files::{RelayFault, RunConfiguration};
-use relay_ports::{FirstPorts, Inlet, Ports};
+use relay_ports::{FirstPorts, Inlet, Ports, RunReceivers};
 use relay_watchers::{LateNews, ReceiverLog, StatusServer};
 use run_state::{DestSources, RunState};
 use senders::WakeGate;
 use std::alloc::Global;
-use std::sync::{Arc, Wait};
+use std::sync::Wait;
 use std::time::Instant;
 use store_lines::{DestSlots, Diversions, GoneDests};
 
@@ -29,8 +28,8 @@ pub(crate) const NAME: u64 = 1;
 
 /// What a run is made of, and its threads borrow: its configuration and its numbers, its queues, the gate that wakes the
 /// senders, and what the threads share beside these; what is left for destinations between two runs, and for those that are gone,
-/// with what wakes their sender; the destinations that may be diverted to files, with what wakes the keeper of these; the
-/// connections that go from one run to the next; what the first thread has for the log; and where receivers hand over what they
+/// with what wakes their sender; the destinations that may be diverted to files, with what wakes the keeper of these; its
+/// receivers; what the first thread has for the log; and where receivers hand over what they
 /// note for a watch.
 #[derive(Drop)]
 pub(crate) struct Relay<B: Set> {
@@ -44,7 +43,7 @@ pub(crate) struct Relay<B: Set> {
     pub(crate) gone_gate: WakeGate,
     pub(crate) diversions: Diversions,
     pub(crate) keeper_gate: WakeGate,
-    pub(crate) streams: Vec<Arc<HandedStreams>>,
+    pub(crate) receivers: RunReceivers,
     pub(crate) late_news: LateNews,
     pub(crate) watches: WatchPlaces,
     // Since when its milliseconds count, its number, from 1 on, and the system's limit for the size of a file.
@@ -151,13 +150,6 @@ impl<B: Set> Relay<B> {
         }
     }
 
-    /// From now on the receivers hand their connections over.
-    pub(crate) fn open_streams(&self) {
-        for streams in &self.streams {
-            streams.open();
-        }
-    }
-
     /// What the run has left, for its recorder.
     pub(crate) fn finished<'x>(
         &'x self,
@@ -213,13 +205,13 @@ fn open_relay<B: Set, L: Drop, F>(
     let RunCarryOver {
         notes,
         mut slots,
-        streams,
         gone,
         logged,
         news,
     } = carry_over;
     let Ports {
         receivers,
+        known,
         first,
         status,
     } = ports;
@@ -237,7 +229,7 @@ fn open_relay<B: Set, L: Drop, F>(
             gone_gate,
             diversions,
             keeper_gate,
-            streams,
+            receivers: known,
             late_news: LateNews::none(),
             watches: WatchPlaces::new(),
             began: process.began,

@@ -12,13 +12,15 @@ use crate::sender_job::SenderJob;
 use crate::sender_setup::{connector_with, senders_of};
 use locked_queues::Set;
 use mio_loops::Readiness;
-use relay_base::NoMemory;
+use relay_base::{NoMemory, add};
 use relay_files::RelayFault;
+use relay_ports::KnownReceiver;
 use relay_watchers::{LogJob, ReceiverLog, StatusJob, Watched, watchers_of};
 use run_threads::{Jobs, Receiving};
 use senders::{HostThreads, SenderShare};
 use std::alloc::Global;
 use std::io::Write;
+use std::sync::Arc;
 use store_lines::{KeeperJob, PartingJob, SenderPlaces};
 
 /// What makes the jobs of a relay's threads.
@@ -68,12 +70,11 @@ pub(crate) fn jobs_of<'x, B: Set, R: RelayRuntime, L: Write + Drop>(
         relay,
         hosts,
     };
-    let mut logs = Vec::new(alloc);
-    let receiving = receivers_of(&maker, doors, receivers, &mut logs);
+    let receiving = receivers_of(&maker, doors, receivers);
     let sending = senders_of(&maker, outlets, watches);
     let parting = parting_job(&maker, gone_watch);
     let keeping = keeper_job(&maker, keeper_watch);
-    let watching = watching_of(&maker, logs, watching);
+    let watching = watching_of(&maker, watching);
     all_jobs(receiving, sending, parting, keeping, watching)
 }
 
@@ -112,17 +113,38 @@ fn parting_job<'x, B: Set, R: RelayRuntime>(
     }
 }
 
-/// What an earlier log has reported of each receiver is not reported again.
-fn resume_logs(logs: &mut Vec<ReceiverLog>, earlier: Vec<ReceiverLog>) {
-    for (log, earlier) in logs.as_mut_slice().iter_mut().zip(earlier) {
-        log.resume(earlier);
+/// What the log reports of each of these receivers. What an earlier log has reported of the one of its name is not reported again.
+fn logs_of(
+    alloc: Global,
+    receivers: &[KnownReceiver],
+    earlier: Vec<ReceiverLog>,
+) -> Result<Vec<ReceiverLog>, NoMemory> {
+    let mut logs = Vec::new(alloc);
+    for receiver in receivers {
+        let notes = Arc::try_clone(&receiver.notes)?;
+        add(&mut logs, ReceiverLog::new(receiver.name, notes))?;
     }
+    for reported in earlier {
+        resume(&mut logs, reported);
+    }
+    Ok(logs)
+}
+
+/// What was reported of a receiver is not reported of the one of its name again.
+fn resume(logs: &mut Vec<ReceiverLog>, reported: ReceiverLog) {
+    let place = reported.name().place();
+    for log in logs.as_mut_slice().iter_mut() {
+        if log.name().place() == place {
+            log.resume(reported);
+            return;
+        }
+    }
+    drop(reported);
 }
 
 /// The jobs of the log and of the status server, if there is an output and a server for them.
 fn watching_of<'x, B: Set, R, L: Write + Drop>(
     maker: &JobMaker<'x, B, R>,
-    logs: Vec<ReceiverLog>,
     watching: Watching<L>,
 ) -> Result<(Option<LogJob<'x, B, L>>, Option<StatusJob<'x, B>>), NoMemory> {
     let Watching {
@@ -131,9 +153,8 @@ fn watching_of<'x, B: Set, R, L: Write + Drop>(
         logged,
         status,
     } = watching;
-    let mut logs = logs;
-    resume_logs(&mut logs, logged);
     let relay = maker.relay;
+    let logs = logs_of(maker.alloc, relay.receivers.known(), logged)?;
     let watched = Watched {
         queues: &relay.queues,
         noted: relay.noted(),

@@ -6,11 +6,11 @@
 
 use crate::relay::Relay;
 use conf_text::Dest;
-use config_changes::place_of;
+use config_changes::{changed_ports, place_of};
 use locked_queues::Set;
 use relay_base::{NoMemory, add};
 use relay_files::RunConfiguration;
-use relay_ports::free_descriptors;
+use relay_ports::{free_descriptors, receivers_of};
 use std::alloc::Global;
 use std::net::{IpAddr, Net};
 use std::sync::Arc;
@@ -58,13 +58,13 @@ pub(crate) struct Needs {
 impl Needs {
     /// What a run by a configuration needs that follows this one: a port and what it waits with for each receiver, what it waits
     /// with for each sender, that to destinations that are gone and the keeper of files, the system's table of datagrams, and the
-    /// file of each destination that is new; a thread for each name that is new, and that of destinations that are gone.
+    /// file of each destination that is new, and another one of each port that changes; a thread for each receiver and each name that is
+    /// new, and that of destinations that are gone.
     pub(crate) fn of<B: Set>(relay: &Relay<B>, configuration: &RunConfiguration) -> Needs {
-        let new = NewDests::of(
-            relay.configuration.settings().destinations(),
-            configuration.settings().destinations(),
-        );
-        let receivers = relay.shape.receivers;
+        let (old, settings) = (relay.configuration.settings(), configuration.settings());
+        let new = NewDests::of(old.destinations(), settings.destinations());
+        let changed = changed_ports(old, settings);
+        let receivers = receivers_of(settings, relay.shape.options);
         let waiting = receivers
             .saturating_add(relay.shape.senders)
             .saturating_add(1)
@@ -74,9 +74,13 @@ impl Needs {
             descriptors: waiting
                 .saturating_mul(WAITS)
                 .saturating_add(receivers)
+                .saturating_add(changed.count())
                 .saturating_add(1)
                 .saturating_add(files),
-            threads: new.names.saturating_add(1),
+            threads: new
+                .names
+                .saturating_add(receivers.saturating_sub(relay.shape.receivers))
+                .saturating_add(1),
         }
     }
 }

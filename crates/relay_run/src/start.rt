@@ -10,8 +10,7 @@ use crate::shared_parts::SharedParts;
 use crate::spool_folder::{SpoolFolder, open_files};
 use conf_text::Settings;
 use locked_queues::BlankTotals;
-use receivers::HandedStreams;
-use relay_base::{NoMemory, add};
+use relay_base::NoMemory;
 use relay_files::{RelayFault, RunConfiguration};
 use relay_ports::{Ports, bind_all};
 use relay_watchers::{ReceiverLog, StatusServer};
@@ -20,7 +19,6 @@ use senders::HostThreads;
 use spool::{OpenFault, SpoolFiles, Unopened};
 use status_server::StatusListener;
 use std::alloc::Global;
-use std::sync::Arc;
 use std::time::Instant;
 use store_lines::{DestCarryOver, DestSlots, GoneDests};
 
@@ -49,13 +47,11 @@ pub(crate) struct Begun {
 }
 
 /// The carry-over of a run, which ended runs left to it: what was noted, what is left for each of its destinations, in their
-/// order, the connections of each receiver, the destinations that are gone, what the log has reported of receivers, and its
-/// first lines.
+/// order, the destinations that are gone, what the log has reported of receivers, and its first lines.
 #[derive(Drop)]
 pub(crate) struct RunCarryOver {
     pub(crate) notes: RunNotes,
     pub(crate) slots: DestSlots,
-    pub(crate) streams: Vec<Arc<HandedStreams>>,
     pub(crate) gone: GoneDests,
     pub(crate) logged: Vec<ReceiverLog>,
     pub(crate) news: String,
@@ -133,6 +129,7 @@ impl Start {
 fn with_server(alloc: Global, ports: Ports<StatusListener>) -> Ports<StatusServer> {
     let Ports {
         receivers,
+        known,
         first,
         status,
     } = ports;
@@ -142,6 +139,7 @@ fn with_server(alloc: Global, ports: Ports<StatusListener>) -> Ports<StatusServe
     };
     Ports {
         receivers,
+        known,
         first,
         status,
     }
@@ -231,21 +229,11 @@ impl RunCarryOver {
             slots.put(place, DestCarryOver::with_files(files));
         }
         Ok(RunCarryOver {
-            notes: RunNotes::new(alloc, shape.receivers, shape.dests)?,
+            notes: RunNotes::new(alloc, shape.dests)?,
             slots,
-            streams: no_streams(alloc, shape.receivers)?,
             gone: GoneDests::with_room(alloc, 0)?,
             logged: Vec::new(alloc),
             news,
         })
     }
-}
-
-/// A place for the connections that each receiver hands over.
-fn no_streams(alloc: Global, receivers: usize) -> Result<Vec<Arc<HandedStreams>>, NoMemory> {
-    let mut streams = Vec::new(alloc);
-    for _ in 0..receivers {
-        add(&mut streams, HandedStreams::new(alloc)?)?;
-    }
-    Ok(streams)
 }

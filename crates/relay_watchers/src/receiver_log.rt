@@ -3,8 +3,8 @@ ghost use Rattle.std.specs.Prelude.{◌≡◌};
 ghost use Rattle.relay_watchers.specs.ReceiverLog.{resumed_from};
 
 use log_lines::{
-    InputUnit, LoggedCounts, LoggedExample, LoggedLosses, LoggedReceiver, LoggedRefusals,
-    ProducerWindow, ReceiverCounts, ReceiverNotes, has_bad, has_lost, push_example_line,
+    LoggedCounts, LoggedExample, LoggedLosses, LoggedReceiver, LoggedRefusals, ProducerWindow,
+    ReceiverCounts, ReceiverName, ReceiverNotes, has_bad, has_lost, push_example_line,
     push_losses_line, push_lost_receiver_line, push_receiver_counts_line, push_receiver_line,
     push_refusals_line,
 };
@@ -16,8 +16,7 @@ use std::sync::Arc;
 /// A receiver's name, where its events are noted, and what the log has reported of it.
 #[derive(Drop)]
 pub struct ReceiverLog {
-    name: &'static str,
-    unit: InputUnit,
+    name: ReceiverName,
     notes: Arc<ReceiverNotes>,
     logged: LoggedReceiver,
     counts: LoggedCounts,
@@ -28,12 +27,10 @@ pub struct ReceiverLog {
 }
 
 impl ReceiverLog {
-    /// The receiver of a name, which reads units of this kind and notes its events here, and of which the log has reported
-    /// nothing.
-    pub fn new(name: &'static str, unit: InputUnit, notes: Arc<ReceiverNotes>) -> ReceiverLog {
+    /// The receiver of a name, which notes its events here, and of which the log has reported nothing.
+    pub fn new(name: ReceiverName, notes: Arc<ReceiverNotes>) -> ReceiverLog {
         ReceiverLog {
             name,
-            unit,
             notes,
             logged: LoggedReceiver::new(),
             counts: LoggedCounts::new(),
@@ -50,7 +47,6 @@ impl ReceiverLog {
     {
         let ReceiverLog {
             name: _,
-            unit: _,
             notes: _,
             logged,
             counts,
@@ -66,6 +62,11 @@ impl ReceiverLog {
         self.example = example;
     }
 
+    /// Its name.
+    pub fn name(&self) -> ReceiverName {
+        self.name
+    }
+
     /// The same receiver, for the status. Refuses if out of memory.
     fn watched(&self) -> Result<WatchedReceiver, NoMemory> {
         Ok(WatchedReceiver {
@@ -78,23 +79,23 @@ impl ReceiverLog {
     pub(crate) fn lines(&mut self, alloc: Global, millis: u64) -> Result<String, AllocError> {
         let mut text = String::new(alloc);
         if let Some(state) = self.logged.look(self.notes.state()) {
-            push_receiver_line(&mut text, self.name, state)?;
+            push_receiver_line(&mut text, self.name.text(), state)?;
         }
         let counts = self.notes.counts();
         if let Some(event) = self.refusals.look(&counts) {
-            push_refusals_line(&mut text, self.name, event)?;
+            push_refusals_line(&mut text, self.name.text(), event)?;
         }
         if self.counts.look(&counts, millis) {
-            push_receiver_counts_line(&mut text, self.name, &counts)?;
+            push_receiver_counts_line(&mut text, self.name.text(), &counts)?;
         }
         let losses = self.notes.losses();
         if self.losses.look(&losses, millis) {
-            push_losses_line(&mut text, self.name, self.unit, &losses)?;
+            push_losses_line(&mut text, self.name.text(), self.name.unit(), &losses)?;
         }
         if let Some(example) = self.notes.example() {
             if self.example.look(true, millis) {
                 self.notes.clear_example();
-                push_example_line(&mut text, self.name, &example)?;
+                push_example_line(&mut text, self.name.text(), &example)?;
             }
         }
         Ok(text)
@@ -105,11 +106,11 @@ impl ReceiverLog {
         let mut text = String::new(alloc);
         let counts = self.notes.counts();
         if has_bad(&counts) {
-            push_receiver_counts_line(&mut text, self.name, &counts)?;
+            push_receiver_counts_line(&mut text, self.name.text(), &counts)?;
         }
         let losses = self.notes.losses();
         if has_lost(&losses) {
-            push_losses_line(&mut text, self.name, self.unit, &losses)?;
+            push_losses_line(&mut text, self.name.text(), self.name.unit(), &losses)?;
         }
         Ok(text)
     }
@@ -119,7 +120,7 @@ impl ReceiverLog {
         let mut text = String::new(alloc);
         if is_lost && !self.is_lost {
             self.is_lost = true;
-            push_lost_receiver_line(&mut text, self.name)?;
+            push_lost_receiver_line(&mut text, self.name.text())?;
         }
         Ok(text)
     }
@@ -128,11 +129,16 @@ impl ReceiverLog {
 /// A receiver that the status shows: its name, and where its events are noted.
 #[derive(Drop)]
 pub(crate) struct WatchedReceiver {
-    name: &'static str,
+    name: ReceiverName,
     notes: Arc<ReceiverNotes>,
 }
 
 impl WatchedReceiver {
+    /// Its place among all receivers, over all runs.
+    pub(crate) fn place(&self) -> usize {
+        self.name.place()
+    }
+
     /// From now on it tells what its producers have sent.
     pub(crate) fn want_producers(&self) {
         self.notes.producers().want();
@@ -151,7 +157,7 @@ impl WatchedReceiver {
     /// Its state now, but for what only several looks show.
     pub(crate) fn snapshot(&self, alloc: Global) -> Result<ReceiverSnapshot, AllocError> {
         Ok(ReceiverSnapshot {
-            name: String::from_str(alloc, self.name)?,
+            name: String::from_str(alloc, self.name.text())?,
             state: self.notes.state(),
             counts: self.notes.counts(),
             losses: self.notes.losses(),

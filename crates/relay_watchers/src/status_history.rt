@@ -6,7 +6,7 @@ use crate::dest_track::{DestLook, DestTrack, FileLook};
 use crate::producer_history::{ProducerHistory, SeenProducers};
 use crate::receiver_track::ReceiverTrack;
 use dest_queue::Counts;
-use log_lines::{DestStatus, ProducerWindow, ReceiverCounts};
+use log_lines::{DestStatus, ProducerWindow, RECEIVER_PLACES, ReceiverCounts};
 use relay_base::{DestId, NoMemory, add};
 use status_page::{Rates, Sample};
 use std::alloc::{AllocError, Global};
@@ -21,6 +21,13 @@ pub(crate) const SAMPLE_SECONDS: u64 = 2;
 /// How many milliseconds pass from one look to the next: by these the ages of datapoints are known.
 pub(crate) const LOOK_MS: u64 = 100;
 
+/// What a receiver of a place has counted.
+#[derive(Clone, Copy)]
+pub(crate) struct CountedReceiver {
+    pub(crate) place: usize,
+    pub(crate) counts: ReceiverCounts,
+}
+
 /// What a relay has counted at a moment: each queue, how each destination does, and each receiver.
 #[derive(Drop)]
 pub(crate) struct Totals {
@@ -28,7 +35,7 @@ pub(crate) struct Totals {
     pub(crate) dests: Vec<DestStatus>,
     // How many datapoints of each destination's file connections took in this run.
     pub(crate) files: Vec<FileLook>,
-    pub(crate) receivers: Vec<ReceiverCounts>,
+    pub(crate) receivers: Vec<CountedReceiver>,
 }
 
 /// The samples of the last minutes, what all counted in a second of the last one, and what was seen of each destination and
@@ -44,6 +51,7 @@ pub(crate) struct StatusHistory {
     received: u64,
     input_at: u64,
     dests: Vec<DestTrack>,
+    // By the places of receivers: a receiver keeps its own over all runs.
     receivers: Vec<ReceiverTrack>,
     producers: ProducerHistory,
     samples: Vec<Sample>,
@@ -118,16 +126,25 @@ impl StatusHistory {
                 track.take_sample(&look, passed);
             }
         }
-        let counts = now.receivers.as_slice();
-        for (track, counts) in self.receivers.as_mut_slice().iter_mut().zip(counts) {
-            track.look(counts, millis);
-            if is_sample {
-                track.take_sample(counts, passed);
-            }
-        }
+        self.look_at_receivers(now, millis, if is_sample { passed } else { 0 });
         if is_sample {
             self.take_sample(now, passed);
             self.sampled = millis;
+        }
+    }
+
+    /// Looks at what receivers have counted, and takes the sample of so many milliseconds, if they are some. Nothing was seen of
+    /// those that are not there.
+    fn look_at_receivers(&mut self, now: &Totals, millis: u64, sampled: u64) {
+        for (place, track) in self.receivers.as_mut_slice().iter_mut().enumerate() {
+            let Some(counts) = counts_of(now, place) else {
+                *track = ReceiverTrack::new();
+                continue;
+            };
+            track.look(&counts, millis);
+            if sampled > 0 {
+                track.take_sample(&counts, sampled);
+            }
         }
     }
 
@@ -150,7 +167,7 @@ impl StatusHistory {
         for _ in self.dests.len()..now.queues.len() {
             add(&mut self.dests, DestTrack::new(alloc))?;
         }
-        for _ in self.receivers.len()..now.receivers.len() {
+        for _ in self.receivers.len()..RECEIVER_PLACES {
             add(&mut self.receivers, ReceiverTrack::new())?;
         }
         Ok(())
@@ -214,6 +231,16 @@ impl StatusHistory {
     }
 }
 
+/// What the receiver of a place has counted, if it is there.
+fn counts_of(now: &Totals, place: usize) -> Option<ReceiverCounts> {
+    for receiver in now.receivers.as_slice() {
+        if receiver.place == place {
+            return Some(receiver.counts);
+        }
+    }
+    None
+}
+
 /// What was seen of the destination of a place, which is not seen there again.
 fn track_at(alloc: Global, tracks: &mut Vec<DestTrack>, place: DestId) -> DestTrack {
     match tracks.get_mut(place.0) {
@@ -248,10 +275,10 @@ fn total_of(now: &Totals) -> Sample {
 }
 
 /// The datapoints that all receivers have accepted.
-fn received_by(receivers: &[ReceiverCounts]) -> u64 {
+fn received_by(receivers: &[CountedReceiver]) -> u64 {
     let mut received: u64 = 0;
-    for counts in receivers {
-        received = received.saturating_add(counts.readers.datapoints);
+    for receiver in receivers {
+        received = received.saturating_add(receiver.counts.readers.datapoints);
     }
     received
 }

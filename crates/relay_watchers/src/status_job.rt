@@ -5,7 +5,7 @@ ghost use Rattle.std.specs.Prelude.{◌≡◌, ◌↔◌, ◌<◌, length, IsSom
 use crate::dest_track::{DestTrack, FileLook};
 use crate::process::SystemFacts;
 use crate::receiver_log::WatchedReceiver;
-use crate::status_history::{NO_RATES, SAMPLE_SECONDS, StatusHistory, Totals};
+use crate::status_history::{CountedReceiver, NO_RATES, SAMPLE_SECONDS, StatusHistory, Totals};
 use conf_text::Dest;
 use dest_queue::Counts;
 use locked_queues::{Queues, Set};
@@ -79,16 +79,19 @@ impl<'x, B: Set> StatusWatch<'x, B> {
             }
         }
         for receiver in self.receivers.as_slice() {
-            totals.receivers.push(receiver.counts())?;
+            totals.receivers.push(CountedReceiver {
+                place: receiver.place(),
+                counts: receiver.counts(),
+            })?;
         }
         Ok(totals)
     }
 
     /// Has the history see what producers have sent.
     fn take_producers(&self, history: &mut StatusHistory, millis: u64) {
-        for (place, receiver) in self.receivers.as_slice().iter().enumerate() {
+        for receiver in self.receivers.as_slice() {
             if let Some(window) = receiver.take_producers() {
-                history.put_producers(place, window, millis);
+                history.put_producers(receiver.place(), window, millis);
             }
         }
     }
@@ -151,9 +154,9 @@ impl<'x, B: Set> StatusWatch<'x, B> {
         times: &ViewTimes,
     ) -> Result<Vec<ReceiverSnapshot>, AllocError> {
         let mut receivers = Vec::new(alloc);
-        for (place, receiver) in self.receivers.as_slice().iter().enumerate() {
+        for receiver in self.receivers.as_slice() {
             let mut snapshot = receiver.snapshot(alloc)?;
-            if let Some(track) = history.receiver(place) {
+            if let Some(track) = history.receiver(receiver.place()) {
                 snapshot.rate = track.rate();
                 snapshot.bad_rate = track.bad_rate();
                 snapshot.bad_age = track.bad_age(times.millis);

@@ -5,16 +5,13 @@ ghost use Rattle.run_state.specs.RunNotes.{nothing_counted};
 
 use crate::rest_notes::RestNotes;
 use dest_queue::EarlierCounts;
-use log_lines::{DestNotes, ReceiverNotes};
+use log_lines::DestNotes;
 use relay_base::{NoMemory, add};
 use std::alloc::Global;
-use std::sync::Arc;
 
-/// What is noted of receivers and of destinations over all runs of a process: a run that ends leaves it to the next one.
+/// What is noted of destinations over all runs of a process: a run that ends leaves it to the next one.
 #[derive(Drop)]
 pub struct RunNotes {
-    /// What each receiver notes.
-    pub receivers: Vec<Arc<ReceiverNotes>>,
     /// By destination: the events of its connections, what its queues counted in runs that have ended, and how much of what
     /// these left is not sent.
     pub dests: Vec<DestNotes>,
@@ -25,34 +22,26 @@ pub struct RunNotes {
 }
 
 impl RunNotes {
-    /// There is no receiver, and no destination. It takes no memory.
+    /// There is no destination. It takes no memory.
     pub fn none(alloc: Global) -> RunNotes
-        ensures receivers { result.receivers.items ≡ [] }
         ensures dests { result.dests.items ≡ [] }
         ensures earlier { result.earlier.items ≡ [] }
         ensures rests { result.rests.items ≡ [] }
     {
         RunNotes {
-            receivers: Vec::new(alloc),
             dests: Vec::new(alloc),
             earlier: Vec::new(alloc),
             rests: Vec::new(alloc),
         }
     }
 
-    /// Nothing has happened to so many receivers and destinations. Refuses if out of memory.
-    pub fn new(alloc: Global, receivers: usize, dests: usize) -> Result<RunNotes, NoMemory>
-        ensures receivers { IfOk result (λ notes. length notes.receivers.items ≡ receivers) }
+    /// Nothing has happened to so many destinations. Refuses if out of memory.
+    pub fn new(alloc: Global, dests: usize) -> Result<RunNotes, NoMemory>
         ensures dests { IfOk result (λ notes. length notes.dests.items ≡ dests) }
         ensures earlier { IfOk result (λ notes. notes.earlier.items ≡ replicate dests nothing_counted) }
         ensures rests { IfOk result (λ notes. length notes.rests.items ≡ dests) }
     {
-        let mut notes = RunNotes {
-            receivers: receivers_of(alloc, receivers)?,
-            dests: Vec::new(alloc),
-            earlier: Vec::new(alloc),
-            rests: Vec::new(alloc),
-        };
+        let mut notes = RunNotes::none(alloc);
         for _ in 0..dests {
             if notes.add_dest().is_err() {
                 drop(notes);
@@ -64,7 +53,6 @@ impl RunNotes {
 
     /// Adds a destination to which nothing has happened.
     fn add_dest(&mut self) -> Result<(), NoMemory>
-        ensures receivers { self.new.receivers ≡ self.old.receivers }
         ensures dests { OnOk result (length self.new.dests.items ≡ length self.old.dests.items + 1) }
         ensures earlier { OnOk result
             (self.new.earlier.items ≡ self.old.earlier.items ++ nothing_counted ∷ []) }
@@ -74,15 +62,4 @@ impl RunNotes {
         add(&mut self.earlier, EarlierCounts::none())?;
         add(&mut self.rests, RestNotes::new(0))
     }
-}
-
-/// Where this many receivers note their events: no event yet.
-fn receivers_of(alloc: Global, receivers: usize) -> Result<Vec<Arc<ReceiverNotes>>, NoMemory>
-    ensures { IfOk result (λ notes. length notes.items ≡ receivers) }
-{
-    let mut notes = Vec::new(alloc);
-    for _ in 0..receivers {
-        add(&mut notes, Arc::new(alloc, ReceiverNotes::new())?)?;
-    }
-    Ok(notes)
 }

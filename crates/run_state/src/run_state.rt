@@ -10,11 +10,10 @@ use crate::signals::{Signals, Stopper};
 use crate::unsent::EndState;
 use conf_text::Dest;
 use dest_queue::{Counts, EarlierCounts};
-use log_lines::{DestNotes, ReceiverNotes};
+use log_lines::DestNotes;
 use relay_base::NoMemory;
 use spool::{SpoolNotes, Waiting};
 use std::alloc::Global;
-use std::sync::Arc;
 use std::sync::atomic::AtomicU64;
 
 /// The signals between the threads, what is noted over all runs, how many connections each receiver of lines holds, and, if
@@ -155,11 +154,6 @@ impl RunState {
     /// Who tells the threads to stop: it is for the first one.
     pub fn stopper(&self) -> Stopper<'_> {
         Stopper::of(&self.signals)
-    }
-
-    /// What each receiver notes.
-    pub fn receivers(&self) -> &[Arc<ReceiverNotes>] {
-        self.notes.receivers.as_slice()
     }
 
     /// How much of what ended runs left for each destination is not sent.

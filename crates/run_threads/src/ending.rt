@@ -1,7 +1,7 @@
 //! What the first thread does while the others run, and how a run ends once it has served: the receivers, of datagrams last, then
 //! the senders, then the keeper of files, at last the watching threads.
 //!
-//! If another run follows, nothing is closed: what the threads hold goes on there. After a reload no thread uses the disk any more.
+//! If another run follows, nothing is closed but ports that it does not have: what the threads hold goes on there. After a reload no thread uses the disk any more.
 //! Only after a fault may the sender to destinations that are gone be writing a file: receivers and senders go on until it has.
 
 ghost use Rattle.std.specs.Prelude.{◌≡◌, ◌⊎◌, Err, if◌then◌else◌};
@@ -10,12 +10,11 @@ use crate::threads::StartedThreads;
 use finished_run::FedLog;
 use locked_queues::{DoorRecord, OutletRecord};
 use mio_loops::{ReadinessFault, WriteLog};
-use receivers::{ReceiverControl, wake_receivers};
 use relay_files::RelayFault;
 use run_state::Stopper;
 use std::alloc::Global;
 use std::rt::Clock;
-use std::sync::{Arc, Wait};
+use std::sync::Wait;
 use std::thread::{JoinHandle, Threads};
 
 /// How a run ends.
@@ -23,7 +22,7 @@ use std::thread::{JoinHandle, Threads};
 pub enum RunEnd {
     /// The relay stops: its receivers close, and what is queued is sent, or files keep it.
     Stop,
-    /// What the threads hold goes on elsewhere, and nothing is closed: another run follows, or this one cannot begin, and
+    /// What the threads hold goes on elsewhere, and nothing is closed but ports that have no place there: another run follows, or this one cannot begin, and
     /// what ended runs left to it is kept.
     HandOver,
     /// The first run has failed: nothing is waited for.
@@ -88,20 +87,21 @@ pub(crate) fn end_threads<
         logs,
         servers,
         unused,
-        controls,
         ..
     } = started;
     let end = work.end_of_run(served.is_err());
     let server = end_server(rt, stopper, servers, end);
     let parting = end_parting(rt, alloc, parting, end, work);
     match end {
-        RunEnd::Stop => work.close_receivers(rt, alloc, controls.as_slice()),
-        // No port is shut: its receiver ends with the others.
-        RunEnd::HandOver => stopper.stop_datagrams(),
+        RunEnd::Stop => work.close_receivers(rt, alloc),
+        RunEnd::HandOver => {
+            work.close_leaving(rt, alloc);
+            // No other port is shut: its receiver ends with the others.
+            stopper.stop_datagrams();
+        }
         RunEnd::Fail => {}
     }
-    let (receivers, are_kept) = end_receivers(rt, alloc, stopper, receivers, controls.as_slice());
-    drop(controls);
+    let (receivers, are_kept) = end_receivers(rt, alloc, stopper, receivers, work);
     let served = served_if(are_kept, served);
     if matches!(end, RunEnd::Stop) && served.is_ok() {
         work.drain(rt, alloc);
@@ -181,20 +181,20 @@ fn join_last<R: Threads + Wait, T: Send + Drop>(rt: &R, children: Vec<JoinHandle
 
 /// Ends the receivers: those of connections, and once they have ended the one of datagrams. If there is one, it is the last.
 /// Returns how they ended, in order, and whether there was memory to keep all of that.
-fn end_receivers<R: Threads + Wait>(
+fn end_receivers<R: Threads + Wait + Clock, O, S, A: FirstWork<R, O, S>>(
     rt: &R,
     alloc: Global,
     stopper: Stopper<'_>,
     receivers: Vec<JoinHandle<ThreadEnd<DoorRecord, FedLog>>>,
-    controls: &[Arc<ReceiverControl>],
+    work: &mut A,
 ) -> (Vec<ThreadEnd<DoorRecord, FedLog>>, bool) {
     let mut receivers = receivers;
     let last = receivers.pop();
     stopper.stop_receivers();
-    wake_receivers(controls);
+    work.wake_receivers();
     let (mut ends, mut are_kept) = join_all(rt, alloc, receivers);
     stopper.stop_datagrams();
-    wake_receivers(controls);
+    work.wake_receivers();
     if let Some(last) = last {
         are_kept = ends.push(last.join(rt)).is_ok() && are_kept;
     }
@@ -250,7 +250,13 @@ pub trait FirstWork<R: Wait + Clock, O, S> {
     fn end_parting(&mut self, rt: &R, alloc: Global);
 
     /// Closes the receivers before they are stopped, so that they read what was sent to them.
-    fn close_receivers(&mut self, rt: &R, alloc: Global, controls: &[Arc<ReceiverControl>]);
+    fn close_receivers(&mut self, rt: &R, alloc: Global);
+
+    /// Closes those of them whose ports the run that follows does not have.
+    fn close_leaving(&mut self, rt: &R, alloc: Global);
+
+    /// Ends the waits of the receivers, so that they see their stop flags.
+    fn wake_receivers(&self);
 
     /// Waits, once the receivers have ended, for as long as the senders are to go on, and notes for whom it does not wait. Then, if
     /// files keep what was not sent, it has the senders write them, and waits until they have.

@@ -10,13 +10,12 @@ use crate::ending::{FirstWork, ThreadEnd, ThreadEnds, end_threads};
 use finished_run::FedLog;
 use locked_queues::{DoorRecord, OutletRecord};
 use mio_loops::WriteLog;
-use receivers::ReceiverControl;
 use relay_files::{RelayFault, write_out};
 use run_state::{Signals, Stopper, ThreadWork};
 use std::alloc::Global;
 use std::io::Write;
 use std::rt::Clock;
-use std::sync::{Arc, Wait};
+use std::sync::Wait;
 use std::thread;
 use std::thread::{Builder, JoinHandle, Scope, Threads};
 
@@ -38,15 +37,13 @@ pub struct Jobs<J, K, G, H, L, V> {
     pub serving: Option<V>,
 }
 
-/// Receivers, the records of seats that are unused, and what closes and wakes the receivers.
+/// Receivers, and the records of seats that are unused.
 #[derive(Drop)]
 pub struct Receiving<J> {
     /// The receivers.
     pub jobs: Vec<J>,
     /// The records of seats that are unused.
     pub unused: Vec<DoorRecord>,
-    /// What closes and wakes the receivers.
-    pub controls: Vec<Arc<ReceiverControl>>,
 }
 
 impl<J> Receiving<J> {
@@ -55,7 +52,6 @@ impl<J> Receiving<J> {
         Receiving {
             jobs: Vec::new(alloc),
             unused: Vec::new(alloc),
-            controls: Vec::new(alloc),
         }
     }
 }
@@ -66,8 +62,7 @@ struct SignalLink<'s> {
     signals: &'s Signals,
 }
 
-/// The handles of threads that were started, and whether all were; the records of unused seats, and what closes and wakes the
-/// receivers. The log's thread leaves an `O`, and the status server's an `S`.
+/// The handles of threads that were started, and whether all were; and the records of unused seats. The log's thread leaves an `O`, and the status server's an `S`.
 #[derive(Drop)]
 pub(crate) struct StartedThreads<O, S> {
     pub(crate) receivers: Vec<JoinHandle<ThreadEnd<DoorRecord, FedLog>>>,
@@ -77,7 +72,6 @@ pub(crate) struct StartedThreads<O, S> {
     pub(crate) logs: Vec<JoinHandle<O>>,
     pub(crate) servers: Vec<JoinHandle<S>>,
     pub(crate) unused: Vec<DoorRecord>,
-    pub(crate) controls: Vec<Arc<ReceiverControl>>,
     are_all: bool,
 }
 
@@ -271,7 +265,6 @@ fn start_all<
     let Receiving {
         jobs: receiving,
         unused,
-        controls,
     } = receiving;
     let (receivers, are_receivers) = start_each(scope, rt, alloc, receiving, link);
     let (senders, are_senders) = start_each(scope, rt, alloc, sending, link);
@@ -287,7 +280,6 @@ fn start_all<
         logs,
         servers,
         unused,
-        controls,
         are_all: are_receivers
             && are_senders
             && is_parting
