@@ -291,11 +291,8 @@ class Refusals(Reloads):
             away = b"relayd: config: cannot read: %s: No such file or directory (os error 2)\n" % config.encode()
             for words in ((), ("--explain",)):
                 self.refuses(relay, Ran(3, b"", away), *words)
-            ports = list(relay.listening)
-            old, ports[0] = ports[0], free_ports(1)[0]
-            self.write("config", self.configuration(dests, ports))
-            fault_of_port = f"relayd: LINE_RECEIVER_PORT: {old} runs, {ports[0]} is in the file: needs a restart\n"
-            self.refuses(relay, Ran(1, b"", fault_of_port.encode()))
+            self.write("config", self.configuration(dests, (store.port, *relay.listening[1:])))
+            self.refuses(relay, Ran(3, b"", b"relayd: listen: line\n"))
             self.reloads(relay, dests)
             self.write("config", "[relay]\nDESTINATIONS = a:b\n")
             self.refuses(relay, fault)

@@ -16,7 +16,7 @@ const RELOADED_WORDS: &[u8] = b"reloaded: ";
 /// Why a relay goes on as it was: by the status with which the command ends.
 #[derive(Clone, Copy)]
 pub enum Refusal {
-    /// The files have a fault, or a change needs a restart.
+    /// The files have a fault.
     Configuration,
     /// A file cannot be read, or the system refused something.
     Device,

@@ -114,12 +114,12 @@ Exit status: 0 the relay stops or, with --wait, has ended; 3 no relay listens on
 pub const RELOAD_HELP: &str = "Example:
     relayd reload --admin 2015 --explain
 
-The relay reads the files again that it began with, and goes on by them: it keeps its ports, its
-connections and what is queued. It prints `reloaded` and what changed. With a fault, or if a port
-changed, the relay goes on as it was. For other files or options, restart the relay.
+The relay reads the files again that it began with, and goes on by them: it keeps its ports but
+those that changed, its connections and what is queued. It prints `reloaded` and what changed. With
+a fault the relay goes on as it was. For other files or options, restart the relay.
 
-Exit status: 0 the relay goes on by the files; 1 they have a fault, or need a restart; 3 a file
-cannot be read, or no relay listens on the port; 4 out of memory.";
+Exit status: 0 the relay goes on by the files; 1 they have a fault; 3 a file cannot be read, a port
+cannot be bound, or no relay listens on the port; 4 out of memory.";
 
 /// Of `relayd restart`.
 pub const RESTART_HELP: &str = "Example:
