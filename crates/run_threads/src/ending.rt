@@ -6,7 +6,7 @@
 
 ghost use Rattle.std.specs.Prelude.{◌≡◌, ◌⊎◌, Err, if◌then◌else◌};
 
-use crate::threads::StartedThreads;
+use crate::threads::{SendingThreads, StartedThreads};
 use finished_run::FedLog;
 use locked_queues::{DoorRecord, OutletRecord};
 use mio_loops::{ReadinessFault, WriteLog};
@@ -81,14 +81,17 @@ pub(crate) fn end_threads<
 {
     let StartedThreads {
         receivers,
-        senders,
-        parting,
-        keeping,
+        sending,
         logs,
         servers,
         unused,
         ..
     } = started;
+    let SendingThreads {
+        senders,
+        parting,
+        keeping,
+    } = sending;
     let end = work.end_of_run(served.is_err());
     let server = end_server(rt, stopper, servers, end);
     let parting = end_parting(rt, alloc, parting, end, work);

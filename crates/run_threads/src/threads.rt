@@ -66,13 +66,19 @@ struct SignalLink<'s> {
 #[derive(Drop)]
 pub(crate) struct StartedThreads<O, S> {
     pub(crate) receivers: Vec<JoinHandle<ThreadEnd<DoorRecord, FedLog>>>,
-    pub(crate) senders: Vec<JoinHandle<ThreadEnd<OutletRecord, Vec<WriteLog>>>>,
-    pub(crate) parting: Vec<JoinHandle<()>>,
-    pub(crate) keeping: Vec<JoinHandle<()>>,
+    pub(crate) sending: SendingThreads,
     pub(crate) logs: Vec<JoinHandle<O>>,
     pub(crate) servers: Vec<JoinHandle<S>>,
     pub(crate) unused: Vec<DoorRecord>,
     are_all: bool,
+}
+
+/// The handles of those that send: the senders, the one to destinations that are gone, and the keeper of files.
+#[derive(Drop)]
+pub(crate) struct SendingThreads {
+    pub(crate) senders: Vec<JoinHandle<ThreadEnd<OutletRecord, Vec<WriteLog>>>>,
+    pub(crate) parting: Vec<JoinHandle<()>>,
+    pub(crate) keeping: Vec<JoinHandle<()>>,
 }
 
 impl<O, S> StartedThreads<O, S> {
@@ -82,8 +88,8 @@ impl<O, S> StartedThreads<O, S> {
         let count = self
             .receivers
             .len()
-            .saturating_add(self.senders.len())
-            .saturating_add(self.keeping.len());
+            .saturating_add(self.sending.senders.len())
+            .saturating_add(self.sending.keeping.len());
         self.are_all && signals.wait_for_begun(rt, count)
     }
 }
@@ -274,9 +280,11 @@ fn start_all<
     let (servers, is_serving) = start_if(scope, rt, alloc, serving, link);
     StartedThreads {
         receivers,
-        senders,
-        parting,
-        keeping,
+        sending: SendingThreads {
+            senders,
+            parting,
+            keeping,
+        },
         logs,
         servers,
         unused,
