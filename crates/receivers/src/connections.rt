@@ -1,8 +1,8 @@
 //! What a listener and its connections share.
 
-use crate::closing::ReceiverControl;
 use crate::idle_times::IdleTimes;
 use crate::progress::Progress;
+use crate::receiver_control::ReceiverControl;
 use log_lines::{LossNotes, LossReason};
 use relay_base::NoMemory;
 use std::alloc::Global;

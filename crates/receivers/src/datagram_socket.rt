@@ -3,7 +3,6 @@
 ghost use Rattle.std.specs.Io.{ReadsAtMost};
 
 use crate::bad_input::{LastInput, Lines, wrong_with};
-use crate::closing::{ReceiverControl, shared_control};
 use crate::datagram_loop::MOST_DATAGRAM;
 use crate::datagrams::Datagrams;
 use crate::input_counts::ServedInput;
@@ -11,6 +10,7 @@ use crate::long_words::{LastWord, is_short};
 use crate::optional_notes::OptionalNotes;
 use crate::producer_table::ProducerTable;
 use crate::producer_tallies::REPORTS_A_WINDOW;
+use crate::receiver_control::{ReceiverControl, shared_control};
 use crate::refusal::passing;
 use crate::system_drops::SystemDrops;
 use log_lines::{BadExample, LossNotes, LossReason, ReceiverNotes};

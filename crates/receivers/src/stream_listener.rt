@@ -6,7 +6,6 @@ ghost use Rattle.receivers.specs.declared.handing.HandedStream.{HandedStream};
 
 use crate::accept::{Accept, AcceptOutcome};
 use crate::bad_input::{LastInput, wrong_with};
-use crate::closing::{ReceiverControl, shared_control};
 use crate::connection_room::{ConnectionRoom, Place, place_in};
 use crate::connections::Connections;
 use crate::handing::{HandedStream, HandedStreams};
@@ -14,6 +13,7 @@ use crate::held_stream::HeldStream;
 use crate::input_counts::ServedInput;
 use crate::optional_notes::OptionalNotes;
 use crate::producer_tallies::ProducerTallies;
+use crate::receiver_control::{ReceiverControl, shared_control};
 use crate::refusal::{no_descriptor, refused};
 use crate::stream_port::StreamPort;
 use handover::FirstBytes;

@@ -9,8 +9,9 @@ use crate::reload_source::ReloadSource;
 use admin_port::AdminListener;
 use locked_queues::Set;
 use mio_loops::{SystemTimes, TimeSource};
-use receivers::ClosingWait;
-use run_state::{Drain, EndState, GoneDrain, Signals, SpoolWait, Unsent};
+use relay_base::MOST_DESTINATIONS;
+use run_state::{EndState, Signals, Unsent};
+use run_threads::{ClosingWait, Drain, GoneDrain, SpoolWait};
 use std::alloc::Global;
 use std::net::Net;
 use std::rt::Clock;
@@ -134,9 +135,20 @@ impl<'x, B: Set> DrainWait<'x, B> {
 impl<R: Wait, B: Set> EndWait<R> for DrainWait<'_, B> {
     fn is_over(&mut self, rt: &R, millis: u64) -> bool {
         let is_over = self.drain.look(rt, &self.unsent, self.signals, millis);
-        let are_waited_for = self.gone.are_waited_for(&mut self.gone_drain, millis);
+        let are_waited_for = are_waited_for(&mut self.gone_drain, self.gone, millis);
         is_over && !are_waited_for
     }
+}
+
+/// Looks at each destination that is gone at these milliseconds. Returns whether a stop waits for one.
+fn are_waited_for(drain: &mut GoneDrain, gone: &GoneDests, millis: u64) -> bool {
+    let mut are = false;
+    for place in 0..gone.dests.len().min(MOST_DESTINATIONS) {
+        if let Some(seen) = gone.seen_at(place, millis) {
+            are = drain.look(place, seen.left, millis, seen.until) || are;
+        }
+    }
+    are
 }
 
 /// The sender to destinations that are gone ends, since another run follows.

@@ -154,7 +154,7 @@ impl Signals {
     }
 
     /// The destinations that take nothing, and those that are too slow, for which a drain does not wait: a bit each.
-    pub(crate) fn note_given_up(&self, stuck: u64, slow: u64) {
+    pub fn note_given_up(&self, stuck: u64, slow: u64) {
         self.stuck.store(stuck, Ordering::SeqCst);
         self.slow.store(slow, Ordering::SeqCst);
     }

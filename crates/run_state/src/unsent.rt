@@ -39,7 +39,7 @@ impl<'x, B: Set> Unsent<'x, B> {
     }
 
     /// How many destinations there are.
-    pub(crate) fn dests(&self) -> usize
+    pub fn dests(&self) -> usize
         ensures dests { result ≡ length self.now.noted.dests.now }
         ensures few { result ≤ B.dests }
     {
@@ -47,7 +47,7 @@ impl<'x, B: Set> Unsent<'x, B> {
     }
 
     /// Whether a destination is connected.
-    pub(crate) fn is_up(&self, place: usize) -> bool {
+    pub fn is_up(&self, place: usize) -> bool {
         match self.noted.notes.get(place) {
             Some(notes) => notes.status(0, true).is_up,
             None => false,
@@ -60,12 +60,12 @@ impl<'x, B: Set> Unsent<'x, B> {
     }
 
     /// What happened to the file of a destination, if there are files.
-    pub(crate) fn spool_notes_at(&self, place: usize) -> Option<&'x SpoolNotes> {
+    pub fn spool_notes_at(&self, place: usize) -> Option<&'x SpoolNotes> {
         self.end.spool_notes().get(place)
     }
 
     /// Whether the connection of a destination takes nothing of the queue, since an earlier file is not sent yet.
-    pub(crate) fn is_behind(&self, place: usize) -> bool {
+    pub fn is_behind(&self, place: usize) -> bool {
         match self.spool_notes_at(place) {
             Some(notes) => notes.is_behind(),
             None => false,

@@ -4,8 +4,8 @@ use crate::dest_carry_over::{DestCarryOver, DestSlots};
 use conf_text::Dest;
 use config_changes::place_of;
 use log_lines::DestNotes;
-use relay_base::{MOST_DESTINATIONS, NoMemory};
-use run_state::{GoneDest, GoneDrain, GoneEnd, GoneNotes, GoneSources, RestNotes};
+use relay_base::NoMemory;
+use run_state::{GoneDest, GoneEnd, GoneNotes, GoneSources, RestNotes};
 use spool::SpoolNotes;
 use std::alloc::Global;
 use std::sync::atomic::{AtomicBool, Ordering};
@@ -49,6 +49,16 @@ impl PartingDest {
             until,
         })
     }
+}
+
+/// What is seen of a destination that is gone and still sent to: how much the connection has still to take, `None` if there is
+/// none that takes it; and until which milliseconds it is sent to.
+#[derive(Clone, Copy)]
+pub struct SeenGone {
+    /// How much is left.
+    pub left: Option<u64>,
+    /// The end.
+    pub until: u64,
 }
 
 impl GoneDests {
@@ -134,15 +144,15 @@ impl GoneDests {
         (0..self.dests.len()).any(|place| !self.is_over(place, millis))
     }
 
-    /// Looks at each at these milliseconds. Returns whether a stop waits for one.
-    pub fn are_waited_for(&self, drain: &mut GoneDrain, millis: u64) -> bool {
-        let mut are = false;
-        for (place, until) in self.until.iter().enumerate() {
-            if place < MOST_DESTINATIONS && !self.is_over(place, millis) {
-                are = drain.look(place, self.left_at(place), millis, *until) || are;
-            }
+    /// What a stop sees of the destination of a place at these milliseconds, if it is still sent to.
+    pub fn seen_at(&self, place: usize, millis: u64) -> Option<SeenGone> {
+        if self.is_over(place, millis) {
+            return None;
         }
-        are
+        Some(SeenGone {
+            left: self.left_at(place),
+            until: *self.until.get(place)?,
+        })
     }
 
     /// How much the connection of the destination of a place has still to take; `None` if there is none, or if it takes an

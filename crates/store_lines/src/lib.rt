@@ -34,7 +34,7 @@ mod spooled_dest;
 
 pub use dest_carry_over::{DestCarryOver, DestSlots, counts_of};
 pub use diversions::{Diversions, DivertTo, QueueLevels};
-pub use gone_dests::{GoneDests, PartingDest};
+pub use gone_dests::{GoneDests, PartingDest, SeenGone};
 pub use keeper_job::{KeeperJob, KeeperPlaces};
 pub use line_sender::LineSender;
 pub use parting_job::PartingJob;

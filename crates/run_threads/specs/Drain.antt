@@ -1,8 +1,8 @@
 -- What a drain sees of a destination, and whether it waits for it.
 use Rattle.std.specs.Prelude.{ℕ, ◌≡◌, ◌≢◌, ◌⊎◌, ◌-◌, ◌*◌, ◌^◌, ◌==◌, ◌&&◌, min, Bool, List, nat_lt, nat_le, if◌then◌else◌, slice_index_or}
-use Rattle.run_state.specs.declared.drain.DrainProgress.{DrainProgress}
-use Rattle.run_state.specs.declared.drain.Waits.{Waits}
-use Rattle.run_state.specs.declared.drain.Waits.TheVariants.{Yes, Done, Stuck, Slow}
+use Rattle.run_threads.specs.declared.drain.DrainProgress.{DrainProgress}
+use Rattle.run_threads.specs.declared.drain.Waits.{Waits}
+use Rattle.run_threads.specs.declared.drain.Waits.TheVariants.{Yes, Done, Stuck, Slow}
 
 -- how many milliseconds a destination may take nothing
 abbrev pub longest_pause : ℕ

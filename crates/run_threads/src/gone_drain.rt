@@ -1,8 +1,8 @@
 //! For which destinations that are gone a stop waits.
 
 ghost use Rattle.std.specs.Prelude.{◌≡◌, ◌≢◌, ◌<◌, ◌↔◌, ℕ, false, IsTrue, IfSome, IfNone, replicate};
-ghost use Rattle.run_state.specs.Drain.{IsNotWaitedFor, seen_of, nothing_seen, progress_after, waits_for};
-ghost use Rattle.run_state.specs.declared.drain.Waits.TheVariants.{Yes};
+ghost use Rattle.run_threads.specs.Drain.{IsNotWaitedFor, seen_of, nothing_seen, progress_after, waits_for};
+ghost use Rattle.run_threads.specs.declared.drain.Waits.TheVariants.{Yes};
 
 use crate::drain::{DrainProgress, Waits};
 use relay_base::MOST_DESTINATIONS;

@@ -1,13 +1,12 @@
 //! For whom a drain waits, and when files have what was not sent.
 
 ghost use Rattle.std.specs.Prelude.{◌≡◌, ◌≢◌, ℕ, ◌+◌, ◌*◌, ◌-◌, ◌^◌, ◌≤◌, ◌<◌, ◌==◌, min, true, false, length, replicate, if◌then◌else◌};
-ghost use Rattle.run_state.specs.Drain.{IsLook, IsWaitedFor, IsNotWaitedFor, nothing_seen, seen_of};
-ghost use Rattle.run_state.specs.declared.drain.Waits.{Waits};
+ghost use Rattle.run_threads.specs.Drain.{IsLook, IsWaitedFor, IsNotWaitedFor, nothing_seen, seen_of};
+ghost use Rattle.run_threads.specs.declared.drain.Waits.{Waits};
 
-use crate::signals::Signals;
-use crate::unsent::Unsent;
 use locked_queues::Set;
 use relay_base::MOST_DESTINATIONS;
+use run_state::{Signals, Unsent};
 use std::sync::Wait;
 
 /// How many milliseconds a destination may take nothing before the drain no longer waits for it.
@@ -150,7 +149,7 @@ impl Drain {
 
 impl DrainProgress {
     ghost use Rattle.std.specs.Prelude.{◌≡◌};
-    ghost use Rattle.run_state.specs.Drain.{nothing_seen, progress_after, with_left, with_first_look, with_look, waits_for, is_slow};
+    ghost use Rattle.run_threads.specs.Drain.{nothing_seen, progress_after, with_left, with_first_look, with_look, waits_for, is_slow};
 
     /// Nothing was seen of it before these milliseconds.
     pub(crate) fn nothing(millis: u64) -> DrainProgress

@@ -1,10 +1,10 @@
 use Rattle.std.proofs.Common.{ℕ, ◌≡◌, ◌≢◌, ◌+◌, ◌<◌, min, true, false, inl, inr, sym, subst, ◌∙◌, arith}
 use Rattle.std.proofs.lemmas.Bool.Decides.{eqb_tells}
-use Rattle.run_state.specs.Drain.{IsLook, IsWaitedFor, IsNotWaitedFor, seen_of}
-use Rattle.run_state.specs.declared.drain.Waits.{Waits}
-use Rattle.run_state.specs.declared.drain.Waits.TheVariants.{Yes}
-use Rattle.run_state.proofs.drain.Drain.look.Goals as goal
-use Rattle.run_state.proofs.drain.Drain.look.Goals.{in-Yes, in-Done, in-Stuck, in-Slow}
+use Rattle.run_threads.specs.Drain.{IsLook, IsWaitedFor, IsNotWaitedFor, seen_of}
+use Rattle.run_threads.specs.declared.drain.Waits.{Waits}
+use Rattle.run_threads.specs.declared.drain.Waits.TheVariants.{Yes}
+use Rattle.run_threads.proofs.drain.Drain.look.Goals as goal
+use Rattle.run_threads.proofs.drain.Drain.look.Goals.{in-Yes, in-Done, in-Stuck, in-Slow}
 
 pub loop-place-preserved : goal.loop-place-preserved
 loop-place-preserved g c =

@@ -1,7 +1,7 @@
 use Rattle.std.proofs.Common.{◌≡◌, ℕ, ◌<◌, ◌≤◌, true, false}
-use Rattle.run_state.specs.Drain.{IsLook, IsWaitedFor, IsNotWaitedFor, seen_of}
-use Rattle.run_state.specs.declared.drain.Waits.{Waits}
-use Rattle.run_state.proofs.drain.Drain.look.Given as goal
+use Rattle.run_threads.specs.Drain.{IsLook, IsWaitedFor, IsNotWaitedFor, seen_of}
+use Rattle.run_threads.specs.declared.drain.Waits.{Waits}
+use Rattle.run_threads.proofs.drain.Drain.look.Given as goal
 
 -- the end is as it was, destinations that were not looked at yet too; the others were looked at, and of them it waits for none if
 -- it is over, and for one if not
