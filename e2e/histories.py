@@ -4,7 +4,7 @@
     python3 e2e/histories.py --relayd PATH [--count N] [--first SEED] [--at-once N]
     python3 e2e/histories.py --relayd PATH --seed SEED
 
-A history has sends, stores that go away, come back or read next to nothing, reloads that remove and add destinations, stops with
+A history has sends, stores that go away, come back or read next to nothing, reloads that remove and add destinations, or move ports, stops with
 and without room on the disk, kills and starts, with and without --spool, drawn from its seed. At its end each line of each
 destination has come to its store once, in order, or is in a file of the spool, or was counted as dropped or not sent; it may
 be missing too where a connection was lost or the relay was killed, and come twice only from a file. The first form plays
