@@ -2,6 +2,7 @@
 //!
 //! A [`Snapshot`] holds what is shown; of producers it has counts and addresses, and nothing that one sent. `specs/Json.antt` and
 //! `specs/Metrics.antt` define the JSON and the metrics, and [`push_json`] and [`push_metrics`] append exactly these.
+//! `specs/MetricTable.antt` and `src/metric_table.rt` have a row for each metric, with what it shows.
 //! `specs/Headline.antt` defines what the status says first, the worst that is true, and the words that it begins with.
 //! Title and heading of the page begin with these; the rest of [`push_page`]'s text has no clause.
 #![tactic(auto)]
@@ -16,6 +17,7 @@ mod json_dests;
 mod json_producers;
 mod json_receivers;
 mod loss_words;
+mod metric_table;
 mod metrics;
 mod numbers;
 mod page;

@@ -1,13 +1,17 @@
 //! The status as metrics, in Prometheus' text format.
 
-ghost use Rattle.std.specs.Prelude.{◌≡◌, ◌++◌, OnOk};
+ghost use Rattle.std.specs.Prelude.{◌≡◌, ◌++◌, OnOk, map};
 ghost use Rattle.std.specs.String.{string_bytes};
-ghost use Rattle.status_page.specs.Metrics.{help_line, type_line, family_head, truth_number, value_line, number_metric, build_line, build_metric, stopping_metric, relay_numbers, process_numbers, dest_metrics, receiver_metrics, status_metrics};
+ghost use Rattle.std.specs.List.{flat_map};
+ghost use Rattle.status_page.specs.MetricTable.{row_of, truth_number, open_number};
+ghost use Rattle.status_page.specs.Metrics.{help_line, type_line, kind_word, metric_head, value_line, relay_scale, relay_sample, build_labels, build_sample, samples, metric_text, status_metrics};
 
-use crate::dest_metrics::push_dests;
+use crate::dest_metrics::push_dest_samples;
+use crate::metric_table::{METRICS, Metric, MetricKind, RelayMetric, Shown, relay_value};
 use crate::plain::plain;
-use crate::receiver_metrics::push_receivers;
+use crate::receiver_metrics::{push_loss_samples, push_receiver_samples, push_rejection_samples};
 use crate::snapshot::Snapshot;
+use log_lines::{LOSS_REASONS, ReceiverState};
 use std::alloc::AllocError;
 use std::fmt::Write as _;
 
@@ -15,162 +19,34 @@ use std::fmt::Write as _;
 pub fn push_metrics(text: &mut String, now: &Snapshot) -> Result<(), AllocError>
     ensures { OnOk result (string_bytes text.new ≡ string_bytes text.old ++ status_metrics now.now) }
 {
-    push_build(text, now)?;
-    push_stopping(text, now)?;
-    push_relay_numbers(text, now)?;
-    push_process_numbers(text, now)?;
-    push_dests(text, now.dests.as_slice())?;
-    push_receivers(text, now.receivers.as_slice())
+    push_each(text, &METRICS, now)
 }
 
-fn push_build(text: &mut String, now: &Snapshot) -> Result<(), AllocError>
-    ensures { OnOk result (string_bytes text.new ≡ string_bytes text.old ++ build_metric now.now) }
-{
-    push_head(
-        text,
-        "relayd_build_info",
-        "The version of the program, and a checksum of the files that it was started with.",
-        "gauge",
-    )?;
-    push_build_line(
-        text,
-        plain(now.version.as_str()),
-        plain(now.configuration.as_str()),
-    )
-}
-
-#[tactic(auto, unfolding(crate::specs::Metrics::build_line))]
-fn push_build_line(text: &mut String, version: &str, configuration: &str) -> Result<(), AllocError>
+/// Adds these metrics.
+fn push_each(text: &mut String, metrics: &[Metric], now: &Snapshot) -> Result<(), AllocError>
     ensures { OnOk result (string_bytes text.new
-        ≡ string_bytes text.old ++ build_line version.now configuration.now) }
+        ≡ string_bytes text.old ++ flat_map (metric_text now.now) (map row_of metrics.now)) }
 {
-    write!(
-        text,
-        "relayd_build_info{{version=\"{version}\",configuration=\"{configuration}\"}} 1\n"
-    )
+    for metric in metrics {
+        push_metric(text, metric, now)?;
+    }
+    Ok(())
 }
 
-#[tactic(auto, unfolding(crate::specs::Metrics::stopping_metric))]
-fn push_stopping(text: &mut String, now: &Snapshot) -> Result<(), AllocError>
-    ensures { OnOk result (string_bytes text.new ≡ string_bytes text.old ++ stopping_metric now.now) }
-{
-    push_number(
-        text,
-        "relayd_stopping",
-        "Whether the relay is about to end: it receives nothing any more, and sends what is queued.",
-        "gauge",
-        truth_number(now.is_stopping),
-        "",
-    )
-}
-
-/// Adds what holds for the relay.
-fn push_relay_numbers(text: &mut String, now: &Snapshot) -> Result<(), AllocError>
-    ensures { OnOk result (string_bytes text.new ≡ string_bytes text.old ++ relay_numbers now.now) }
-{
-    push_number(
-        text,
-        "relayd_last_datapoint_timestamp_seconds",
-        "When a receiver last accepted a datapoint, in seconds since 1970; the start if none came.",
-        "gauge",
-        now.input_at,
-        "",
-    )?;
-    push_number(
-        text,
-        "relayd_uptime_seconds",
-        "Old name: for how many seconds the relay has run; see process_start_time_seconds.",
-        "gauge",
-        now.uptime,
-        "",
-    )?;
-    push_number(
-        text,
-        "relayd_destination_queue_size",
-        "Old name: how many datapoints each queue holds at most; see relayd_destination_queue_capacity.",
-        "gauge",
-        now.queue_size,
-        "",
-    )
-}
-
-/// Adds what the system counts of the process.
-fn push_process_numbers(text: &mut String, now: &Snapshot) -> Result<(), AllocError>
-    ensures { OnOk result (string_bytes text.new ≡ string_bytes text.old ++ process_numbers now.now) }
-{
-    push_number(
-        text,
-        "process_start_time_seconds",
-        "When the process started, in seconds since 1970.",
-        "gauge",
-        now.started,
-        "",
-    )?;
-    push_number(
-        text,
-        "process_cpu_seconds_total",
-        "The processor's time that it has taken.",
-        "counter",
-        now.process.processor,
-        "e-2",
-    )?;
-    push_number(
-        text,
-        "process_resident_memory_bytes",
-        "Its memory that is resident.",
-        "gauge",
-        now.process.resident,
-        "",
-    )?;
-    push_number(
-        text,
-        "process_open_fds",
-        "The descriptors that it has open.",
-        "gauge",
-        now.process.descriptors,
-        "",
-    )?;
-    push_number(
-        text,
-        "process_max_fds",
-        "The descriptors that it may have open.",
-        "gauge",
-        now.process.most_descriptors,
-        "",
-    )
-}
-
-/// Adds a metric that has one number, times this power of ten.
-fn push_number(
-    text: &mut String,
-    name: &str,
-    help: &str,
-    kind: &str,
-    value: u64,
-    scale: &str,
-) -> Result<(), AllocError>
+fn push_metric(text: &mut String, metric: &Metric, now: &Snapshot) -> Result<(), AllocError>
     ensures { OnOk result (string_bytes text.new
-        ≡ string_bytes text.old ++ number_metric name.now help.now kind.now value scale.now) }
+        ≡ string_bytes text.old ++ metric_text now.now (row_of metric.now)) }
 {
-    push_head(text, name, help, kind)?;
-    text.push_str(name)?;
-    text.push_str(" ")?;
-    push_value(text, value, scale)
+    push_head(text, metric)?;
+    push_samples(text, metric.name, metric.shows, now)
 }
 
 /// Adds the lines that explain a metric.
-#[tactic(auto, unfolding(crate::specs::Metrics::family_head))]
-pub(crate) fn push_head(
-    text: &mut String,
-    name: &str,
-    help: &str,
-    kind: &str,
-) -> Result<(), AllocError>
-    ensures { OnOk result (string_bytes text.new
-        ≡ string_bytes text.old ++ family_head name.now help.now kind.now) }
+fn push_head(text: &mut String, metric: &Metric) -> Result<(), AllocError>
+    ensures { OnOk result (string_bytes text.new ≡ string_bytes text.old ++ metric_head (row_of metric.now)) }
 {
-    push_help(text, name, help)?;
-    push_type(text, name, kind)
+    push_help(text, metric.name, metric.help)?;
+    push_type(text, metric.name, kind_word(metric.kind))
 }
 
 #[tactic(auto, unfolding(crate::specs::Metrics::help_line))]
@@ -187,6 +63,87 @@ fn push_type(text: &mut String, name: &str, kind: &str) -> Result<(), AllocError
     write!(text, "# TYPE {name} {kind}\n")
 }
 
+fn kind_word(kind: MetricKind) -> &'static str
+    ensures { result.now ≡ kind_word kind }
+{
+    match kind {
+        MetricKind::Counter => "counter",
+        MetricKind::Gauge => "gauge",
+    }
+}
+
+/// Adds the numbers of a metric, with its labels.
+fn push_samples(
+    text: &mut String,
+    name: &str,
+    shows: Shown,
+    now: &Snapshot,
+) -> Result<(), AllocError>
+    ensures { OnOk result (string_bytes text.new ≡ string_bytes text.old ++ samples name.now shows now.now) }
+{
+    match shows {
+        Shown::Build => push_build(text, name, now),
+        Shown::Relay(metric) => push_relay_sample(text, name, metric, now),
+        Shown::Dests(metric) => push_dest_samples(text, name, metric, now.dests.as_slice()),
+        Shown::Receivers(metric) => {
+            push_receiver_samples(text, name, metric, now.receivers.as_slice())
+        }
+        Shown::Rejections => push_rejection_samples(text, name, now.receivers.as_slice()),
+        Shown::Losses => push_loss_samples(text, name, now.receivers.as_slice(), &LOSS_REASONS),
+    }
+}
+
+fn push_build(text: &mut String, name: &str, now: &Snapshot) -> Result<(), AllocError>
+    ensures { OnOk result (string_bytes text.new ≡ string_bytes text.old ++ build_sample name.now now.now) }
+{
+    text.push_str(name)?;
+    push_build_labels(
+        text,
+        plain(now.version.as_str()),
+        plain(now.configuration.as_str()),
+    )
+}
+
+/// Adds the version and the configuration, as labels.
+#[tactic(auto, unfolding(crate::specs::Metrics::build_labels))]
+fn push_build_labels(
+    text: &mut String,
+    version: &str,
+    configuration: &str,
+) -> Result<(), AllocError>
+    ensures { OnOk result (string_bytes text.new
+        ≡ string_bytes text.old ++ build_labels version.now configuration.now) }
+{
+    write!(
+        text,
+        "{{version=\"{version}\",configuration=\"{configuration}\"}} 1\n"
+    )
+}
+
+/// Adds a metric of the relay.
+fn push_relay_sample(
+    text: &mut String,
+    name: &str,
+    metric: RelayMetric,
+    now: &Snapshot,
+) -> Result<(), AllocError>
+    ensures { OnOk result (string_bytes text.new ≡ string_bytes text.old ++ relay_sample name.now metric now.now) }
+{
+    text.push_str(name)?;
+    text.push_str(" ")?;
+    push_value(text, relay_value(metric, now), relay_scale(metric))
+}
+
+/// The power of ten of a metric's number: hundredths of a second, or none.
+fn relay_scale(metric: RelayMetric) -> &'static str
+    ensures { result.now ≡ relay_scale metric }
+{
+    match metric {
+        RelayMetric::Processor => "e-2",
+        _ => "",
+    }
+}
+
 /// Adds a number, a power of ten, as in `5e-3`, or none, and a newline.
 #[tactic(auto, unfolding(crate::specs::Metrics::value_line))]
 pub(crate) fn push_value(text: &mut String, value: u64, scale: &str) -> Result<(), AllocError>
@@ -199,4 +156,14 @@ pub(crate) fn truth_number(is_so: bool) -> u64
     ensures { result ≡ truth_number is_so }
 {
     if is_so { 1 } else { 0 }
+}
+
+/// 1 if it receives, 0 if not.
+pub(crate) fn open_number(state: ReceiverState) -> u64
+    ensures { result ≡ open_number state }
+{
+    match state {
+        ReceiverState::Open => 1,
+        ReceiverState::Paused { .. } | ReceiverState::Failed { .. } => 0,
+    }
 }

@@ -1,7 +1,8 @@
 use Rattle.std.proofs.Common.{◌++◌, ap, ◌∙◌}
 use Rattle.std.proofs.lemmas.Result.{on_ok_weaker}
 use Rattle.std.specs.String.{string_bytes}
-use Rattle.status_page.specs.Metrics.{value_line, dest_value, dest_label, dest_sample}
+use Rattle.status_page.specs.MetricTable.{dest_value}
+use Rattle.status_page.specs.Metrics.{value_line, dest_label, dest_sample}
 use Rattle.status_page.proofs.Lists.{also}
 use Rattle.status_page.proofs.dest_metrics.push_dest_sample.Goals as goal
 
