@@ -16,6 +16,7 @@ import completions
 from command_words import commands, takers
 from rooms import TOP
 
+FISH = os.path.join("packaging", "relayd.fish")
 MAN = os.path.join("packaging", "relayd.1")
 PAGES = [os.path.join("docs", name) for name in ("RUNNING.md", "FORMATS.md", "REPLAY.md")]
 ENTRY = re.compile(r"(?m)^\.TP\n\.BI? (\\-\\-[a-z\\-]+).*\n\([a-z, ]+\)$")
@@ -113,9 +114,8 @@ def page(text):
 def files():
     """What each file has to say, by its path."""
     said = {os.path.join("packaging", "relayd.bash"): completions.for_bash(),
-            os.path.join("packaging", "_relayd"): completions.for_zsh(),
-            os.path.join("packaging", "relayd.fish"): completions.for_fish()}
-    for path, made in [(MAN, man_page), *((path, page) for path in PAGES)]:
+            os.path.join("packaging", "_relayd"): completions.for_zsh()}
+    for path, made in [(FISH, completions.for_fish), (MAN, man_page), *((path, page) for path in PAGES)]:
         with open(os.path.join(TOP, path), encoding="utf-8") as file:
             said[path] = made(file.read())
     return said

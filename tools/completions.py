@@ -85,18 +85,7 @@ _relayd() {{
 _relayd "$@"
 """
 
-FISH = r"""{made}
-
-# Whether the command is one of these; without any, whether there is none yet.
-function __relayd_command
-    set -l words (commandline -opc)
-    if test (count $argv) -eq 0
-        test (count $words) -eq 1
-    else
-        contains -- "$words[2]" $argv
-    end
-end
-
+FISH = r"""{head}
 complete -c relayd -f
 complete -c relayd -n __relayd_command -s V -l version -d 'Print the version'
 complete -c relayd -n 'not __relayd_command help' -s h -l help -d 'Print help'
@@ -212,8 +201,9 @@ def fish_options():
     return "\n".join(f"complete -c relayd -n '__relayd_command {' '.join(names)}' {told}" for told, names in takers.items())
 
 
-def for_fish():
-    """The completion for fish."""
+def for_fish(text):
+    """The completion for fish in the place of this text, whose lines above the first that completes stay."""
+    head = text.partition("\ncomplete ")[0]
     listed = [(command.name, command.about) for command in commands()] + [(HELP, ABOUT_HELP)]
     told = "\n".join(f"complete -c relayd -n __relayd_command -a {name} -d {fish_text(about)}" for name, about in listed)
-    return FISH.format(made=MADE.format("fish"), commands=told, names=" ".join(names()), options=fish_options())
+    return FISH.format(head=head, commands=told, names=" ".join(names()), options=fish_options())
