@@ -5,6 +5,7 @@ import os
 import pickle
 import socket
 import threading
+import time
 
 from fixtures import sockets
 from fixtures.harness import LIMIT, Ran
@@ -172,6 +173,8 @@ class Ports(Reloads):
                 socket.socket(socket.AF_INET, socket.SOCK_DGRAM) as datagrams:
             datagrams.bind(("127.0.0.1", free_ports(1)[0]))
             taken, wanted = other.getsockname()[1], free_ports(1)[0]
+            producer.sendall(b"a 1 1700000000\n")
+            self.wait_for(lambda: len(store.lines()) == 1, "both connections are there")
             descriptors = relay.descriptors()
             cases = (
                 ("line", {"LINE_RECEIVER_PORT": taken}),
@@ -189,7 +192,7 @@ class Ports(Reloads):
                     self.assertTrue(refuses(wanted))
                     producer.sendall(b"a.%d 1 1700000000\n" % number)
                     relay.lines(b"b.%d 1 1700000000\n" % number)
-                    self.wait_for(lambda: len(store.lines()) == 2 * number + 2, "the relay sends as before")
+                    self.wait_for(lambda: len(store.lines()) == 2 * number + 3, "the relay sends as before")
                     self.wait_for(lambda: relay.descriptors() == descriptors, "nothing is left open")
             self.assertEqual(store.connections(), 1)
             self.moves(relay, dests, 0)
@@ -257,6 +260,44 @@ class Ports(Reloads):
             self.assertEqual(cut, [])
             self.has(store, sent)
             self.stops(relay, rb"settled\n|sealed \d\n")
+
+    def test_commands_while_it_moves(self):
+        """While a producer that does not stop holds up the port that goes, for half a second, commands are answered: another reload
+        and a stop by the run that follows. All that was read has arrived."""
+        for command in (b"report", b"reload", b"stop"):
+            store, = self.stores(1)
+            dests = [f"127.0.0.1:{store.port}"]
+            with self.subTest(command), self.running(dests) as relay, \
+                    socket.create_connection(("127.0.0.1", relay.line), LIMIT) as producer:
+                is_over, moved = threading.Event(), []
+
+                def producing():
+                    number = 0
+                    with contextlib.suppress(OSError):
+                        while not is_over.wait(0.002):
+                            producer.sendall(b"a.%d 1 1700000000\n" % number)
+                            number += 1
+
+                beside = (threading.Thread(target=producing),
+                          threading.Thread(target=lambda: moved.append(self.moves(relay, dests, 0))))
+                for thread in beside:
+                    thread.start()
+                time.sleep(0.2)
+                if command == b"reload":
+                    self.assertEqual(self.reload(relay), RELOADED)
+                else:
+                    self.assertRegex(relay.command(command), {b"report": b"\\Adestination ", b"stop": b"\\Astopping\n\\Z"}[command])
+                beside[1].join(LIMIT)
+                is_over.set()
+                beside[0].join(LIMIT)
+                self.assertEqual(len(moved), 1, "it has moved")
+                if command == b"stop":
+                    self.assertEqual(relay.child.wait(LIMIT), 0)
+                else:
+                    self.stops(relay)
+                numbers = [int(line.split()[0].removeprefix(b"a.")) for line in store.lines()]
+                self.assertEqual(numbers, list(range(len(numbers))))
+                self.assertGreater(len(numbers), 0)
 
     def test_descriptors(self):
         """Twenty moves leave no descriptor open."""
