@@ -1,6 +1,6 @@
 //! The connections of a receiver, as a watch sees them.
 
-use crate::batch::{PieceHead, PieceStart, SeenPiece};
+use crate::batch::{PieceStart, SeenPiece};
 use crate::found::{FoundPiece, LineEnds};
 use crate::receiver_kind::kind_of;
 use line_text::Moment;
@@ -47,8 +47,16 @@ impl ConnectionShadows {
         let mut found = FoundPiece::none(self.alloc);
         match kind_of(head.receiver) {
             ReaderKind::Datagram => read_datagram(self.alloc, bytes, moment, &mut found)?,
-            ReaderKind::Line => self.read_lines(head, bytes, moment, &mut found)?,
-            ReaderKind::Pickle => self.read_frames(head, bytes, moment, &mut found)?,
+            ReaderKind::Line => {
+                let unread = self.take(head.connection);
+                let begun = line_begun(self.alloc, head.start, unread);
+                self.read_lines(head.connection, begun, bytes, moment, &mut found)?
+            }
+            ReaderKind::Pickle => {
+                let unread = self.take(head.connection);
+                let begun = frame_begun(self.alloc, head.start, unread, bytes.len());
+                self.read_frames(head.connection, begun, bytes, moment, &mut found)?
+            }
         }
         Ok(found)
     }
@@ -72,17 +80,16 @@ impl ConnectionShadows {
         Ok(())
     }
 
-    /// The datapoints of a piece of lines.
+    /// The datapoints of a piece of lines, which goes on with this text, if that is known.
     fn read_lines(
         &mut self,
-        head: PieceHead,
+        connection: usize,
+        begun: Option<Vec<u8>>,
         bytes: &[u8],
         moment: Moment,
         found: &mut FoundPiece,
     ) -> Result<(), NoMemory> {
-        let connection = head.connection;
-        let unread = self.take(connection);
-        let Some(begun) = line_begun(self.alloc, head.start, unread) else {
+        let Some(begun) = begun else {
             found.is_head_known = false;
             let Some(first) = bytes.iter().position(is_newline) else {
                 return Ok(());
@@ -117,17 +124,16 @@ impl ConnectionShadows {
         found.find_lines(self.alloc, whole, LineEnds::Newline, moment)
     }
 
-    /// The datapoints of a piece of frames.
+    /// The datapoints of a piece of frames, which this reads, if it has a begin of one that is known.
     fn read_frames(
         &mut self,
-        head: PieceHead,
+        connection: usize,
+        begun: Option<BegunFrames>,
         bytes: &[u8],
         moment: Moment,
         found: &mut FoundPiece,
     ) -> Result<(), NoMemory> {
-        let connection = head.connection;
-        let unread = self.take(connection);
-        let Some(begun) = frame_begun(self.alloc, head.start, unread, bytes.len()) else {
+        let Some(begun) = begun else {
             found.is_head_known = false;
             return Ok(());
         };
