@@ -35,6 +35,13 @@ impl RelayAt<'_> {
     }
 }
 
+/// A command for a relay, and what it asks about.
+#[derive(Clone, Copy)]
+struct Question<'a> {
+    command: AdminCommand,
+    asked: &'a [u8],
+}
+
 /// Sends a command to a relay, and copies its answer to the output.
 ///
 /// Refuses a port at which nothing listens, and all that is not the whole answer of a relay, within some seconds; then it
@@ -87,9 +94,10 @@ pub fn answer_about<R: Net + Clock>(
     ensures ok { IfOk result (λ answer. IsAnswerTo command answer.items) }
     ensures whole { IfOk result (λ answer. is_whole answer.items ≡ true) }
 {
-    match answer_once(rt, alloc, relay, command, asked) {
+    let question = Question { command, asked };
+    match answer_once(rt, alloc, relay, question) {
         Err(AdminFault::UnknownCommand) if relay.key.is_some() => {
-            answer_once(rt, alloc, relay.without_key(), command, asked)
+            answer_once(rt, alloc, relay.without_key(), question)
         }
         answer => answer,
     }
@@ -100,13 +108,13 @@ fn answer_once<R: Net + Clock>(
     rt: &R,
     alloc: Global,
     relay: RelayAt<'_>,
-    command: AdminCommand,
-    asked: &[u8],
+    question: Question<'_>,
 ) -> Result<Vec<u8>, AdminFault>
-    ensures ok { IfOk result (λ answer. IsAnswerTo command answer.items) }
+    ensures ok { IfOk result (λ answer. IsAnswerTo question.entry.command answer.items) }
     ensures whole { IfOk result (λ answer. is_whole answer.items ≡ true) }
 {
-    let request = request_of(alloc, relay.key, command, asked)?;
+    let command = question.command;
+    let request = request_of(alloc, relay.key, command, question.asked)?;
     let answer = match connect(rt, relay.port) {
         Ok(mut stream) => {
             let answer = exchange(rt, alloc, &mut stream, command, request.as_slice());
