@@ -80,16 +80,16 @@ impl ConnectionShadows {
         Ok(())
     }
 
-    /// The datapoints of a piece of lines, which goes on with this text, if that is known.
+    /// The datapoints of a piece of lines, the first of which has this begin, if that is known.
     fn read_lines(
         &mut self,
         connection: usize,
-        begun: Option<Vec<u8>>,
+        begin: Option<Vec<u8>>,
         bytes: &[u8],
         moment: Moment,
         found: &mut FoundPiece,
     ) -> Result<(), NoMemory> {
-        let Some(begun) = begun else {
+        let Some(begin) = begin else {
             found.is_head_known = false;
             let Some(first) = bytes.iter().position(is_newline) else {
                 return Ok(());
@@ -97,7 +97,7 @@ impl ConnectionShadows {
             let (_, rest) = bytes.split_at(first.saturating_add(1).min(bytes.len()));
             return self.read_begun(connection, rest, moment, found);
         };
-        found.text = begun;
+        found.text = begin;
         self.read_begun(connection, bytes, moment, found)
     }
 
