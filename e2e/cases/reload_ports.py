@@ -3,6 +3,7 @@
 import contextlib
 import os
 import pickle
+import resource
 import socket
 import threading
 import time
@@ -13,6 +14,8 @@ from fixtures.reloading import RELOADED, Reloads, numbered, text_of
 from fixtures.running import frame, shown
 from fixtures.stores import free_ports
 
+UNSHARED, SHARED = 1_100, 200  # descriptors: enough for all connections of one receiver, and not
+PRODUCERS = 600
 TURNS = 12
 EACH = 2_000  # lines of a producer in a turn
 
@@ -298,6 +301,34 @@ class Ports(Reloads):
                 numbers = [int(line.split()[0].removeprefix(b"a.")) for line in store.lines()]
                 self.assertEqual(numbers, list(range(len(numbers))))
                 self.assertGreater(len(numbers), 0)
+
+    def test_few_descriptors(self):
+        """One more receiver of connections is refused where it could take the descriptors of stores. Where producers share those that
+        are left, it shares them too, and a store that comes back gets its own."""
+        self.needs_descriptors(2 * PRODUCERS)
+        for limit, expected in ((UNSHARED, Ran(3, b"", b"relayd: no descriptors\n")), (SHARED, RELOADED)):
+            store, = self.stores(1)
+            dests = [f"127.0.0.1:{store.port}"]
+
+            def limited():
+                resource.setrlimit(resource.RLIMIT_NOFILE, (limit, limit))
+
+            with self.subTest(limit), contextlib.ExitStack() as at_end, \
+                    self.running(dests, before=limited, PICKLE_RECEIVER_PORT="0") as relay:
+                relay.lines(b"a.1 1 1700000000\n")
+                self.has(store, [b"a.1 1 1700000000"])
+                self.assertEqual(self.reload(relay, *self.files(relay, dests)), expected)
+                self.assertEqual(refuses(relay.pickle), expected is not RELOADED)
+                for port in (relay.line, relay.pickle) if expected is RELOADED else (relay.line,):
+                    for _ in range(PRODUCERS // 2):
+                        at_end.enter_context(socket.create_connection(("127.0.0.1", port), LIMIT))
+                store.stop()
+                store.start()
+                for number in range(20):
+                    relay.datagram(b"u.%d 1 1700000000\n" % number)
+                self.wait_for(lambda: b"u.19 1 1700000000" in store.lines(), "the store has a descriptor")
+                at_end.close()
+                self.stops(relay)
 
     def test_descriptors(self):
         """Twenty moves leave no descriptor open."""
