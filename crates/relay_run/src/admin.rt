@@ -18,16 +18,16 @@ use crate::start::Process;
 use finished_run::Recorder;
 use locked_queues::Set;
 use mio_loops::{SystemTimes, TimeSource};
-use receivers::wake_receivers;
+use receivers::{ReceiverControl, wake_receivers};
 use relay_base::put;
-use relay_ports::{FirstPorts, NewPorts, SystemTables};
+use relay_ports::{FirstPorts, NewPorts, NextReceivers, SystemTables};
 use relay_watchers::{LogEnd, StatusServer};
 use run_threads::{ClosingWait, FirstWork, RunEnd};
 use std::alloc::Global;
 use std::mem;
 use std::net::Net;
 use std::rt::Clock;
-use std::sync::Wait;
+use std::sync::{Arc, Wait};
 use std::thread::Threads;
 
 /// How many milliseconds a turn waits at most while there is no connection.
@@ -185,6 +185,44 @@ fn answer_until_ended<B: Set, R: Wait + Clock + Net + SystemTables + Threads, F:
     unreachable!()
 }
 
+/// Closes the receivers with these controls, and answers commands until they have closed.
+fn close<B: Set, R: Wait + Clock + Net, F: ReloadSource>(
+    rt: &R,
+    alloc: Global,
+    relay: &Relay<B>,
+    ports: &mut FirstPorts,
+    files: &F,
+    controls: &[Arc<ReceiverControl>],
+) {
+    let millis = SystemTimes::since(rt, relay.began).millis();
+    let closing = ClosingWait::begin(controls, millis);
+    let mut desk = AdminDesk::new(relay, ports, files, true);
+    answer_until_over(rt, alloc, &mut desk, closing);
+}
+
+/// The ports of the run that follows, if one does, are kept from now on. Returns what closes the receivers of this one whose ports
+/// those are not.
+fn leaving_for<B: Set>(
+    alloc: Global,
+    ports: &mut FirstPorts,
+    next: &mut Option<PreparedRun<B>>,
+) -> Vec<Arc<ReceiverControl>> {
+    match next {
+        Some(next) => take_leaving(alloc, ports, &mut next.next.held.receivers),
+        None => Vec::new(alloc),
+    }
+}
+
+/// Takes both from the receivers of that run.
+fn take_leaving(
+    alloc: Global,
+    ports: &mut FirstPorts,
+    receivers: &mut NextReceivers,
+) -> Vec<Arc<ReceiverControl>> {
+    ports.replace(mem::replace(&mut receivers.ports, NewPorts::none()));
+    mem::replace(&mut receivers.leaving, Vec::new(alloc))
+}
+
 /// How many milliseconds a turn waits at most.
 fn pause_of(reading: Option<Reading>, is_watching: bool) -> u64 {
     match reading {
@@ -246,30 +284,20 @@ impl<
     }
 
     fn close_receivers(&mut self, rt: &R, alloc: Global) {
-        let relay = self.relay;
-        self.state.ports.shut();
+        let (relay, files) = (self.relay, self.files);
+        let ports = &mut self.state.ports;
+        ports.shut();
         spool_away(relay);
-        let millis = SystemTimes::since(rt, relay.began).millis();
-        let closing = ClosingWait::begin(relay.receivers.controls(), millis);
-        let mut desk = AdminDesk::new(relay, &mut self.state.ports, self.files, true);
-        answer_until_over(rt, alloc, &mut desk, closing);
+        close(rt, alloc, relay, ports, files, relay.receivers.controls());
     }
 
     fn close_leaving(&mut self, rt: &R, alloc: Global) {
         let (relay, files) = (self.relay, self.files);
         let FirstState { ports, next, .. } = &mut *self.state;
-        let Some(next) = next else {
-            return;
-        };
-        let receivers = &mut next.next.held.receivers;
-        ports.replace(mem::replace(&mut receivers.ports, NewPorts::none()));
-        if receivers.leaving.is_empty() {
-            return;
+        let leaving = leaving_for(alloc, ports, next);
+        if !leaving.is_empty() {
+            close(rt, alloc, relay, ports, files, leaving.as_slice());
         }
-        let millis = SystemTimes::since(rt, relay.began).millis();
-        let closing = ClosingWait::begin(receivers.leaving.as_slice(), millis);
-        let mut desk = AdminDesk::new(relay, ports, files, true);
-        answer_until_over(rt, alloc, &mut desk, closing);
     }
 
     fn wake_receivers(&self) {
