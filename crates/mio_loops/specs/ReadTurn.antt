@@ -121,3 +121,43 @@ TurnProgress remaining plan moment ready report old new before after =
     × LoopProgress plan gained offered old new before after
     × TurnServed remaining plan moment (is_ready ready) answers gained offered old new
     × (report ≡ report_of answers)
+
+-- ---- a turn that may be stopped
+
+-- a token is among those that are marked as ready
+abbrev pub is_marked : List Bool → ℕ → Bool
+is_marked marks token = slice_index_or marks token false
+
+-- a connection that is due was served, or else the turn was stopped and its token is in the again list; no other was served,
+-- and its token stays in that list or out of it
+abbrev pub IsServedOrListed : (may_stop due : Bool) → Option Served → (listed new : Bool) → Type 0
+IsServedOrListed may_stop true (Some answer) listed new = new ≡ is_again answer
+IsServedOrListed may_stop true None listed new = (may_stop ≡ true) × (new ≡ true)
+IsServedOrListed may_stop false (Some answer) listed new = ⊥
+IsServedOrListed may_stop false None listed new = new ≡ listed
+
+-- its connection was served at a moment, or was not; its reader was fed these entries, and made these offers
+pub record TokenWatched {S : Type 0} (may_stop : Bool) (remaining : S → Option (List ℕ)) (plan : Plan)
+    (moment token : ℕ) (due : Bool) (answer : Option Served) (entries : List InputEntry) (made : List Dispatch)
+    (old new : LoopState S) : Type 0 where
+  pub connection : ConnectionProgress remaining plan moment answer entries made
+      (slice_get old.readers token) (slice_get new.readers token) (get old.sources token) (get new.sources token)
+  pub listed : IsServedOrListed may_stop due answer (is_listed old token) (is_listed new token)
+
+-- these are the answers, token by token
+abbrev pub TurnWatched : {S : Type 0} → (may_stop : Bool) → (remaining : S → Option (List ℕ)) → Plan → ℕ
+    → (ready : ℕ → Bool) → List (Option Served) → List LoggedEntry → List ReaderOffer
+    → (old new : LoopState S) → Type 0
+TurnWatched may_stop remaining plan moment ready answers gained offered old new =
+    (token : ℕ) → TokenWatched may_stop remaining plan moment token (is_due (ready token) old token)
+    (answer_at answers token) (entries_of (old.first + token) gained) (offers_of (old.first + token) offered) old new
+
+-- readers of a loop were fed, and offers made, by serving connections that are due at this moment, all unless the turn
+-- was stopped, and the report counts the answers
+abbrev pub WatchedProgress : {S : Type 0} → (may_stop : Bool) → (remaining : S → Option (List ℕ)) → Plan → ℕ
+    → (ready : ℕ → Bool) → TurnReport → (old new : LoopState S) → (before after : OffersMade) → Type 0
+WatchedProgress may_stop remaining plan moment ready report old new before after =
+    (answers : List (Option Served)) × (gained : List LoggedEntry) × (offered : List ReaderOffer)
+    × LoopProgress plan gained offered old new before after
+    × TurnWatched may_stop remaining plan moment ready answers gained offered old new
+    × (report ≡ report_of answers)
