@@ -16,6 +16,7 @@ ghost use Rattle.mio_loops.specs.Reading.{entries_by, offers_by};
 ghost use Rattle.mio_loops.specs.ReadTurn.{TokenWatched, TurnProgress, WatchedProgress, is_due, is_marked};
 ghost use Rattle.mio_loops.specs.StoredLoop.{AllFresh};
 ghost use Rattle.mio_loops.specs.LoopSteps.{LoopProgress, ConnectionProgress, NoneHeldBack, is_again};
+ghost use Rattle.mio_loops.specs.LeavingLoop.{IsTakenOut};
 ghost use Rattle.queue_records.specs.Offers.{IsRefusedBy};
 
 use crate::admit_fault::AdmitFault;
@@ -281,15 +282,7 @@ impl<S: Read + Drop> ReadLoop<S> {
     /// Takes out the connection of a token, if it is held. Its reader stays as it is, and has not ended: so only a loop that
     /// admits none from then on (`LeavingLoop`) does it.
     pub(crate) fn take_out(&mut self, token: Token) -> Option<S>
-        ensures stream { MatchOption result (get self.old.sources token.0 ≡ None)
-            (λ stream. (held : Counting S) × (get self.old.sources token.0 ≡ Some held)
-            × (stream_of held ≡ stream)) }
-        ensures left { get self.new.sources token.0 ≡ None }
-        ensures others { (other : ℕ) → other ≢ token.0
-            → get self.new.sources other ≡ get self.old.sources other }
-        ensures listed { (any : ℕ) → is_listed self.new any ≡ is_listed self.old any }
-        ensures rest { (self.new.first ≡ self.old.first) × (self.new.readers ≡ self.old.readers)
-            × (self.new.log ≡ self.old.log) }
+        ensures { IsTakenOut token.0 result self.old self.new }
     {
         let source = self.sources.try_remove(token.0)?;
         Some(source.into_stream())
