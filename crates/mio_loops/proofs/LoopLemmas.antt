@@ -120,17 +120,6 @@ module _ {S : Type 0} (plan : Plan) where
   loop-none l a =
       record { first = refl; readers = λ token reader at. (reader, at, goes-none plan reader); others = λ reader beyond. (refl, refl); offers = refl; log = refl }
 
-  -- the readers and the log are as they were
-  pub loop-same : (l m : LoopState S) (a : OffersMade) → m.first ≡ l.first → m.readers ≡ l.readers → m.log ≡ l.log → LoopProgress plan [] [] l m a a
-  loop-same l m a first readers log =
-      record {
-        first = first;
-        readers = λ token reader at. (reader, ap (λ (rs : List ReaderModel). slice_get rs token) readers ∙ at, goes-none plan reader);
-        others = λ reader beyond. (refl, refl);
-        offers = refl;
-        log = log;
-      }
-
   pub loop-then : (xs ys : List LoggedEntry) (ms ns : List ReaderOffer) (k l m : LoopState S) (a b c : OffersMade)
       → LoopProgress plan xs ms k l a b → LoopProgress plan ys ns l m b c → LoopProgress plan (xs ++ ys) (ms ++ ns) k m a c
   loop-then xs ys ms ns k l m a b c first second =
@@ -333,9 +322,3 @@ module _ {S : Type 0} (refuses : ℕ → ℕ → Datapoint → Type 0) (dests : 
       → (u : ℕ) (r : ReaderModel) → slice_get (slice_set l.readers t y) u ≡ Some r → AreMadeOrRefused (refuses (l.first + u)) dests r.waiting
   held_back-set l old t y is waits all = λ u r found.
       held_back-here l t u y r waits (subst (λ (o : LoopState S). NoneHeldBack refuses dests o) (sym is) all) (cases_eq u t) found
-
-  -- the readers are as they were
-  pub held_back-same : (l m : LoopState S) → m.first ≡ l.first → m.readers ≡ l.readers → NoneHeldBack refuses dests l → NoneHeldBack refuses dests m
-  held_back-same l m first readers all token reader at =
-      subst (λ (n : ℕ). AreMadeOrRefused (refuses (n + token)) dests reader.waiting) (sym first)
-      (all token reader (ap (λ (rs : List ReaderModel). slice_get rs token) (sym readers) ∙ at))

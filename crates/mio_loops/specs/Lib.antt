@@ -4,7 +4,6 @@ pub mod Reading
 pub mod Serving
 pub mod LoopState
 pub mod StoredLoop
-pub mod LeavingLoop
 pub mod LoopSteps
 pub mod ReadTurn
 pub mod ReadLaws

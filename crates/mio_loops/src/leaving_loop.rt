@@ -1,8 +1,11 @@
 //! The connections of a loop that serves none any more.
-ghost use Rattle.std.specs.Prelude.{◌≡◌, ◌<◌, Some, slice_get};
+ghost use Rattle.std.specs.Prelude.{◌≡◌, ◌≢◌, ◌<◌, ℕ, Some, None, MatchOption, slice_get};
+ghost use Rattle.slab.specs.Slab.{get};
+ghost use Rattle.dest_writer.specs.Counting.{stream_of};
+ghost use Rattle.dest_writer.specs.declared.counting.Counting.{Counting};
 ghost use Rattle.reader_core.specs.Reader.{ReaderModel};
 ghost use Rattle.reader_core.specs.Scan.{rest_of};
-ghost use Rattle.mio_loops.specs.LeavingLoop.{IsTakenOut};
+ghost use Rattle.mio_loops.specs.LoopState.{is_listed};
 
 use crate::input_log::InputLog;
 use crate::read_loop::{MOST_CONNECTIONS, ReadLoop};
@@ -38,7 +41,15 @@ impl<S: Read + Drop> LeavingLoop<S> {
 
     /// Takes out the connection of a token, if it is held. Its reader stays as it is, and so does the log.
     pub fn take_out(&mut self, token: Token) -> Option<S>
-        ensures { IsTakenOut token.0 result self.old self.new }
+        ensures stream { MatchOption result (get self.old.sources token.0 ≡ None)
+            (λ stream. (held : Counting S) × (get self.old.sources token.0 ≡ Some held)
+            × (stream_of held ≡ stream)) }
+        ensures left { get self.new.sources token.0 ≡ None }
+        ensures others { (other : ℕ) → other ≢ token.0
+            → get self.new.sources other ≡ get self.old.sources other }
+        ensures listed { (any : ℕ) → is_listed self.new any ≡ is_listed self.old any }
+        ensures rest { (self.new.first ≡ self.old.first) × (self.new.readers ≡ self.old.readers)
+            × (self.new.log ≡ self.old.log) }
     {
         self.reads.take_out(token)
     }

@@ -1,5 +1,5 @@
 //! The connections of one receiver.
-ghost use Rattle.std.specs.Prelude.{◌≡◌, ◌≢◌, ◌*◌, ◌+◌, ◌<◌, ◌≤◌, ℕ, List, [], length, true, false, Option, Some, None, IfOk, IfErr, OnErr, MatchOption, slice_get, map};
+ghost use Rattle.std.specs.Prelude.{◌≡◌, ◌≢◌, ◌*◌, ◌+◌, ◌<◌, ◌≤◌, ℕ, List, [], length, true, false, Option, Some, None, IfOk, IfErr, OnErr, MatchOption, is_some, slice_get, map};
 ghost use Rattle.slab.specs.Slab.{get, slab_len, Updates};
 ghost use Rattle.dest_writer.specs.Counting.{counts_of, stream_of};
 ghost use Rattle.dest_writer.specs.declared.counting.Counting.{Counting};
@@ -13,10 +13,9 @@ ghost use Rattle.reader_core.specs.Reader.{ReaderModel, Represents};
 ghost use Rattle.reader_core.specs.Scan.{rest_of};
 ghost use Rattle.mio_loops.specs.LoopState.{is_held, is_listed, has_listed, is_full, NoneForgotten};
 ghost use Rattle.mio_loops.specs.Reading.{entries_by, offers_by};
-ghost use Rattle.mio_loops.specs.ReadTurn.{TokenWatched, TurnProgress, WatchedProgress, is_due, is_marked};
+ghost use Rattle.mio_loops.specs.ReadTurn.{TokenProgress, TurnProgress, is_due};
 ghost use Rattle.mio_loops.specs.StoredLoop.{AllFresh};
 ghost use Rattle.mio_loops.specs.LoopSteps.{LoopProgress, ConnectionProgress, NoneHeldBack, is_again};
-ghost use Rattle.mio_loops.specs.LeavingLoop.{IsTakenOut};
 ghost use Rattle.queue_records.specs.Offers.{IsRefusedBy};
 
 use crate::admit_fault::AdmitFault;
@@ -28,9 +27,7 @@ use crate::ready_tokens::marks_of;
 use crate::serve::{MOST_READ, serve, stays};
 use crate::served::Served;
 use crate::token::Token;
-use crate::token_turn::TokenTurn;
 use crate::turn_report::TurnReport;
-use crate::turn_watcher::{TurnWatcher, Unwatched};
 use dest_writer::Counting;
 use line_text::Moment;
 use queue_records::{Door, MOST_RECEIVERS, READERS_EACH};
@@ -233,39 +230,9 @@ impl<S: Read + Drop> ReadLoop<S> {
         ensures plan { plan.new ≡ plan.old }
     {
         let marks = marks_of(ready);
-        self.turn_while(&marks, plan, door, moment, &mut Unwatched)
-    }
-
-    /// One turn as [`ReadLoop::turn`] makes it, of the connections whose tokens are marked as ready, with a watcher: it is asked
-    /// before each connection that is due whether the turn goes on, and told after each that was served. A connection
-    /// before which it stops the turn is not served, and is in the again list then.
-    pub fn turn_while<D: Door, W: TurnWatcher>(
-        &mut self,
-        marks: &[bool; MOST_CONNECTIONS],
-        plan: &mut Plan,
-        door: &mut D,
-        moment: Moment,
-        watcher: &mut W,
-    ) -> TurnReport
-        requires dests { plan.old.destinations ≤ length (D.record_of door.old).totals }
-        ensures turn { WatchedProgress W.may_stop S.remaining plan.old moment (is_marked marks.now) result
-            self.old self.new (D.record_of door.old) (D.record_of door.new) }
-        // The offers of each reader are made, unless the door refused one.
-        ensures waits { NoneHeldBack (IsRefusedBy D.may_refuse) plan.old.destinations self.old
-            → NoneHeldBack (IsRefusedBy D.may_refuse) plan.old.destinations self.new }
-        ensures within { (token : ℕ) → is_held self.old token ≡ true → token < MOST_CONNECTIONS }
-        ensures none_forgotten { NoneForgotten self.new }
-        ensures dests { plan.old.destinations ≤ length (D.record_of door.new).totals }
-        ensures plan { plan.new ≡ plan.old }
-    {
         let mut report = TurnReport::new();
         for token in 0..self.tokens() {
-            let turn = TokenTurn {
-                token: Token(token),
-                is_ready: marks[token],
-                moment,
-            };
-            report.count(self.serve_if_due(turn, plan, door, watcher));
+            report.count(self.serve_if_due(Token(token), marks[token], plan, door, moment));
         }
         report
     }
@@ -282,7 +249,15 @@ impl<S: Read + Drop> ReadLoop<S> {
     /// Takes out the connection of a token, if it is held. Its reader stays as it is, and has not ended: so only a loop that
     /// admits none from then on (`LeavingLoop`) does it.
     pub(crate) fn take_out(&mut self, token: Token) -> Option<S>
-        ensures { IsTakenOut token.0 result self.old self.new }
+        ensures stream { MatchOption result (get self.old.sources token.0 ≡ None)
+            (λ stream. (held : Counting S) × (get self.old.sources token.0 ≡ Some held)
+            × (stream_of held ≡ stream)) }
+        ensures left { get self.new.sources token.0 ≡ None }
+        ensures others { (other : ℕ) → other ≢ token.0
+            → get self.new.sources other ≡ get self.old.sources other }
+        ensures listed { (any : ℕ) → is_listed self.new any ≡ is_listed self.old any }
+        ensures rest { (self.new.first ≡ self.old.first) × (self.new.readers ≡ self.old.readers)
+            × (self.new.log ≡ self.old.log) }
     {
         let source = self.sources.try_remove(token.0)?;
         Some(source.into_stream())
@@ -296,53 +271,43 @@ impl<S: Read + Drop> ReadLoop<S> {
         self.readers.len()
     }
 
-    /// Serves the connection of a token, if it is due, and returns how. If the watcher stops the turn before it, the connection
-    /// is in the again list instead.
-    fn serve_if_due<D: Door, W: TurnWatcher>(
+    /// Serves the connection of a token, if it is due, and returns how.
+    fn serve_if_due<D: Door>(
         &mut self,
-        turn: TokenTurn,
+        token: Token,
+        ready: bool,
         plan: &mut Plan,
         door: &mut D,
-        watcher: &mut W,
+        moment: Moment,
     ) -> Option<Served>
-        requires within { turn.token.0 < MOST_CONNECTIONS }
+        requires within { token.0 < MOST_CONNECTIONS }
         requires dests { plan.old.destinations ≤ length (D.record_of door.old).totals }
         ensures went { (entries : List InputEntry) × (made : List Dispatch)
-            × LoopProgress plan.old (entries_by (self.old.first + turn.token.0) entries)
-            (offers_by (self.old.first + turn.token.0) made) self.old self.new
+            × LoopProgress plan.old (entries_by (self.old.first + token.0) entries)
+            (offers_by (self.old.first + token.0) made) self.old self.new
             (D.record_of door.old) (D.record_of door.new)
-            × TokenWatched W.may_stop S.remaining plan.old turn.moment turn.token.0
-            (is_due turn.is_ready self.old turn.token.0) result entries made self.old self.new }
+            × TokenProgress S.remaining plan.old moment token.0 result entries made self.old self.new }
         // The offers of each reader are made, unless the door refused one.
         ensures waits { NoneHeldBack (IsRefusedBy D.may_refuse) plan.old.destinations self.old
             → NoneHeldBack (IsRefusedBy D.may_refuse) plan.old.destinations self.new }
+        ensures chosen { is_some result ≡ is_due ready self.old token.0 }
         ensures none_forgotten { NoneForgotten self.new }
-        ensures others { (other : ℕ) → other ≢ turn.token.0
+        ensures others { (other : ℕ) → other ≢ token.0
             → (get self.new.sources other ≡ get self.old.sources other)
             × (slice_get self.new.readers other ≡ slice_get self.old.readers other)
             × (is_listed self.new other ≡ is_listed self.old other) }
         ensures dests { plan.old.destinations ≤ length (D.record_of door.new).totals }
         ensures plan { plan.new ≡ plan.old }
     {
-        let TokenTurn {
-            token,
-            is_ready,
-            moment,
-        } = turn;
-        if !self.is_due(token, is_ready) {
-            return None;
+        if self.is_due(token, ready) {
+            Some(self.serve_one(token, plan, door, moment))
+        } else {
+            None
         }
-        if !watcher.goes_on(self, token, plan) {
-            self.list_again(token);
-            return None;
-        }
-        let served = self.serve_one(token, plan, door, moment);
-        watcher.note_served(self, token, plan);
-        Some(served)
     }
 
     /// Whether a turn serves the connection of a token, which is or is not ready.
-    fn is_due(&self, token: Token, ready: bool) -> bool
+    pub fn is_due(&self, token: Token, ready: bool) -> bool
         requires within { token.0 < MOST_CONNECTIONS }
         ensures due { result ≡ is_due ready self.now token.0 }
         ensures none_forgotten { NoneForgotten self.now }
@@ -351,13 +316,12 @@ impl<S: Read + Drop> ReadLoop<S> {
     }
 
     /// Puts a token into the again list, so that the next turn serves its connection, if it is held. It takes no memory.
-    fn list_again(&mut self, token: Token)
+    pub fn list_again(&mut self, token: Token)
         requires within { token.0 < MOST_CONNECTIONS }
         ensures listed { is_listed self.new token.0 ≡ true }
         ensures others { (other : ℕ) → other ≢ token.0
             → is_listed self.new other ≡ is_listed self.old other }
         ensures sources { self.new.sources ≡ self.old.sources }
-        ensures none_forgotten { NoneForgotten self.new }
         ensures rest { (self.new.first ≡ self.old.first) × (self.new.readers ≡ self.old.readers)
             × (self.new.log ≡ self.old.log) }
     {

@@ -1,7 +1,7 @@
 -- The moments of what readers were fed.
-use Rattle.std.proofs.Common.{◌≡◌, ◌==◌, ◌+◌, ◌-◌, ◌≤◌, ◌<◌, ◌⊎◌, inl, inr, ◌∙◌, ◌++◌, if◌then◌else◌, ℕ, Bool, true, false, List, [], ◌∷◌, length, Option, Some, None, refl, ap, subst, arith}
+use Rattle.std.proofs.Common.{◌≡◌, ◌==◌, ◌+◌, ◌-◌, ◌≤◌, ◌<◌, ◌⊎◌, ◌≢◌, inl, inr, ◌∙◌, ◌++◌, if◌then◌else◌, ℕ, Bool, true, false, List, [], ◌∷◌, length, slice_get, Option, Some, None, refl, sym, ap, subst, arith}
 use Rattle.std.specs.Prelude.{nat_le}
-use Rattle.std.proofs.lemmas.Bool.{and_parts, and_from, cases_lt, eq-eqb, eqb-true, false≢true}
+use Rattle.std.proofs.lemmas.Bool.{and_parts, and_from, cases_eq, cases_lt, eq-eqb, eqb-true, false≢true}
 use Rattle.dest_writer.specs.declared.counting.Counting.{Counting}
 use Rattle.line_text.specs.Datapoint.{Datapoint}
 use Rattle.router.specs.Plan.{Plan}
@@ -11,12 +11,13 @@ use Rattle.reader_core.specs.Reader.{ReaderModel}
 use Rattle.queue_records.specs.Offers.{OffersMade}
 use Rattle.mio_loops.specs.LoopState.{LoopState}
 use Rattle.mio_loops.specs.LoopSteps.{LoopProgress, ConnectionProgress, NoneHeldBack}
-use Rattle.mio_loops.specs.Reading.{ReaderOffer}
-use Rattle.mio_loops.specs.ReadTurn.{TurnWatched, answer_at}
+use Rattle.mio_loops.specs.Reading.{ReaderOffer, AreMadeOrRefused, entries_by, offers_by}
+use Rattle.mio_loops.specs.ReadTurn.{TurnServed, answer_at}
 use Rattle.mio_loops.specs.Serving.{IsFedAs, are_reads, is_read, most_read, stays, with_end}
 use Rattle.mio_loops.specs.declared.served.Served.{Served}
 use Rattle.mio_loops.specs.declared.served.Served.TheVariants.{Drained, Again, Ended, Failed, Starved, Refused}
-use Rattle.mio_loops.proofs.LoopLemmas.{entries-then, loop-none, loop-then}
+use Rattle.mio_loops.proofs.LoopLemmas.{entries-own, entries-other, entries-then, loop-none, loop-then}
+use Rattle.mio_loops.proofs.ReadingLemmas.{goes-none}
 use Rattle.receivers.specs.Datagrams.{is_at}
 use Rattle.receivers.specs.Record.{has_moment, have_moments}
 use Rattle.receivers.specs.Turns.{TurnsProgress}
@@ -63,22 +64,64 @@ module _ {S : Type 0} (remaining : S → Option (List ℕ)) where
   connection-moments plan may_give moment (Some answer) es made reader next (Some source) after reported went =
       ap (have_moments may_give) went.2 ∙ end-moments may_give answer went.1 (reads-moments may_give moment went.1 reported went.3.reads)
 
-  module _ (plan : Plan) (may_stop : Bool) (moment : ℕ) (ready : ℕ → Bool) (answers : List (Option Served)) (gained : List LoggedEntry) (offered : List ReaderOffer)
+  module _ (plan : Plan) (moment : ℕ) (ready : ℕ → Bool) (answers : List (Option Served)) (gained : List LoggedEntry) (offered : List ReaderOffer)
       (old new : LoopState S) (a b : OffersMade) (may_give : ℕ → Bool) where
-    of-reader : (reader : ℕ) → may_give moment ≡ true → LoopProgress plan gained offered old new a b → TurnWatched may_stop remaining plan moment ready answers gained offered old new
+    of-reader : (reader : ℕ) → may_give moment ≡ true → LoopProgress plan gained offered old new a b → TurnServed remaining plan moment ready answers gained offered old new
         → (reader < old.first) ⊎ (old.first ≤ reader) → have_moments may_give (entries_of reader gained) ≡ true
-    of-reader reader reported went watched (inl below) = ap (have_moments may_give) (went.others reader (inl below)).0
-    of-reader reader reported went watched (inr above) =
+    of-reader reader reported went served (inl below) = ap (have_moments may_give) (went.others reader (inl below)).0
+    of-reader reader reported went served (inr above) =
         let token = reader - old.first in
         let is : old.first + token ≡ reader = omega (arith, above) in
         subst (λ (n : ℕ). have_moments may_give (entries_of n gained) ≡ true) is
-        (connection-moments plan may_give moment (answer_at answers token) _ _ _ _ _ _ reported (watched token).connection)
+        (connection-moments plan may_give moment (answer_at answers token) _ _ _ _ _ _ reported (served.tokens token).connection)
 
-    pub turn-moments : may_give moment ≡ true → LoopProgress plan gained offered old new a b → TurnWatched may_stop remaining plan moment ready answers gained offered old new
+    pub turn-moments : may_give moment ≡ true → LoopProgress plan gained offered old new a b → TurnServed remaining plan moment ready answers gained offered old new
         → (reader : ℕ) → have_moments may_give (entries_of reader gained) ≡ true
-    turn-moments reported went watched reader = of-reader reader reported went watched (cases_lt reader old.first)
+    turn-moments reported went served reader = of-reader reader reported went served (cases_lt reader old.first)
+
+-- the entries of one reader are those of any reader
+own-moments : (may_give : ℕ → Bool) (number reader : ℕ) (es : List InputEntry) → have_moments may_give es ≡ true → (number ≡ reader) ⊎ (number ≢ reader)
+    → have_moments may_give (entries_of reader (entries_by number es)) ≡ true
+own-moments may_give number reader es reported (inl is) =
+    subst (λ (n : ℕ). have_moments may_give (entries_of n (entries_by number es)) ≡ true) is (ap (have_moments may_give) (entries-own number es) ∙ reported)
+own-moments may_give number reader es reported (inr differs) = ap (have_moments may_give) (entries-other reader number es differs)
+
+module _ {S : Type 0} (remaining : S → Option (List ℕ)) (refuses : ℕ → ℕ → Datapoint → Type 0) where
+  -- one connection was served: these are its number, its entries and its offers
+  pub one-served : (plan : Plan) (may_give : ℕ → Bool) (moment number : ℕ) (answer : Option Served) (es : List InputEntry) (made : List Dispatch)
+      (old new : LoopState S) (reader next : Option ReaderModel) (before after : Option (Counting S)) (a b : OffersMade)
+      → may_give moment ≡ true → LoopProgress plan (entries_by number es) (offers_by number made) old new a b
+      → ConnectionProgress remaining plan moment answer es made reader next before after
+      → (NoneHeldBack refuses plan.destinations old → NoneHeldBack refuses plan.destinations new)
+      → TurnsProgress refuses may_give plan old new a b
+  one-served plan may_give moment number answer es made old new reader next before after a b reported went connection waits = (
+    entries_by number es,
+    offers_by number made,
+    went,
+    λ other. own-moments may_give number other es (connection-moments remaining plan may_give moment answer es made reader next before after reported connection) (cases_eq number other),
+    waits,
+  )
 
 -- ---- turns
+
+-- the again list is replaced
+pub listed-went : {S : Type 0} (refuses : ℕ → ℕ → Datapoint → Type 0) (may_give : ℕ → Bool) (plan : Plan) (old new : LoopState S) (a : OffersMade)
+    → new.first ≡ old.first → new.readers ≡ old.readers → new.log ≡ old.log → TurnsProgress refuses may_give plan old new a a
+listed-went refuses may_give plan old new a first readers log = (
+  [],
+  [],
+  record {
+    first = first;
+    readers = λ token reader at. (reader, ap (λ (rs : List ReaderModel). slice_get rs token) readers ∙ at, goes-none plan reader);
+    others = λ reader beyond. (refl, refl);
+    offers = refl;
+    log = log;
+  },
+  λ reader. refl,
+  λ held token reader at.
+      subst (λ (n : ℕ). AreMadeOrRefused (refuses (n + token)) plan.destinations reader.waiting) (sym first)
+      (held token reader (ap (λ (rs : List ReaderModel). slice_get rs token) (sym readers) ∙ at)),
+)
 
 module _ {S : Type 0} (refuses : ℕ → ℕ → Datapoint → Type 0) (may_give : ℕ → Bool) (plan : Plan) where
   pub no-turns : (l : LoopState S) (a : OffersMade) → TurnsProgress refuses may_give plan l l a a

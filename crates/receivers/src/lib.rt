@@ -27,10 +27,10 @@ mod receiver;
 mod receiver_control;
 mod record;
 mod refusal;
+mod serving;
 mod stream_listener;
 mod stream_port;
 mod stream_receiver;
-mod stream_watcher;
 mod system_drops;
 
 pub use accept::{Accept, AcceptOutcome};

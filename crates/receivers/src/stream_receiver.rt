@@ -10,7 +10,7 @@ use crate::handing::end_loop;
 use crate::noting_times::NotingTimes;
 use crate::receiver::Receiver;
 use crate::record::{ReceiverRecord, without_memory};
-use crate::stream_watcher::StreamWatcher;
+use crate::serving::serve_until;
 use mio_loops::{
     LISTENER, MOST_CONNECTIONS, ReadLoop, ReadinessFault, StopFlag, TimeSource, Token, marks_of,
 };
@@ -142,19 +142,19 @@ fn take_turn<A: Accept, D: Door, T: TimeSource, F: StopFlag>(
     let ready = receiver.source.wait(wait_for(backlog, reads.has_again()))?;
     let is_reported = has_listener(ready);
     let marks = marks_of(ready);
-    serve_ready(receiver, reads, &marks, times, stop);
+    serve_ready(receiver, reads, marks, times, stop);
     if !is_reported && matches!(backlog, Backlog::Empty) {
         return Ok(Backlog::Empty);
     }
     take_connections(&mut receiver.source, reads)
 }
 
-/// Serves the connections that are marked as ready or are in the again list, all at the moment that the clock returns now. If
-/// the stop flag is set before a connection's turn, the connection is not served: it is in the again list then.
+/// Serves the connections that are marked as ready or are in the again list, all at the moment that the clock returns now, until
+/// the stop flag is set.
 fn serve_ready<S: Read + Drop, A: Accept, D: Door, T: TimeSource, F: StopFlag>(
     receiver: &mut Receiver<A, D>,
     reads: &mut ReadLoop<S>,
-    marks: &[bool; MOST_CONNECTIONS],
+    marks: [bool; MOST_CONNECTIONS],
     times: &T,
     stop: &F,
 )
@@ -164,15 +164,7 @@ fn serve_ready<S: Read + Drop, A: Accept, D: Door, T: TimeSource, F: StopFlag>(
     ensures dests { receiver.old.plan.destinations ≤ length (D.record_of receiver.new.door).totals }
     ensures plan { receiver.new.plan ≡ receiver.old.plan }
 {
-    let moment = times.moment();
-    let mut watcher = StreamWatcher::new(&mut receiver.source, stop);
-    let _report = reads.turn_while(
-        marks,
-        &mut receiver.plan,
-        &mut receiver.door,
-        moment,
-        &mut watcher,
-    );
+    serve_until(receiver, reads, marks, times.moment(), stop);
 }
 
 /// How many milliseconds a turn waits, by what may be left.
