@@ -58,7 +58,7 @@ class Ports(Reloads):
         self.assertEqual(sorted(store.lines()), sorted(lines))
 
     def test_the_port_of_lines(self):
-        """It moves: who is connected is told to go and loses nothing that was sent, and the old port refuses."""
+        """It moves. The relay half-closes the connections at the old port, reads what they have sent, and refuses there."""
         for options in ((), ("--line-receivers", "3", "--senders", "2")):
             store, = self.stores(1)
             dests = [f"127.0.0.1:{store.port}"]
@@ -227,8 +227,8 @@ class Ports(Reloads):
             self.stops(relay)
 
     def test_under_load(self):
-        """While the port of lines moves again and again, producers that are told to go lose nothing, and those of pickles notice
-        nothing: each line arrives once."""
+        """While the port of lines moves again and again, those whose connections it half-closes lose nothing, and those of pickles
+        notice nothing: each line arrives once."""
         store, = self.stores(1)
         dests = [f"127.0.0.1:{store.port}"]
         sent, cut = [], []
